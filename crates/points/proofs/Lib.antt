@@ -1,0 +1,4 @@
+pub mod Decided
+pub mod Counted
+pub mod Summed
+pub mod Tabled

@@ -1,0 +1,5 @@
+mod Bounds
+mod Written
+mod FourBytes
+pub mod RangeFacts
+pub mod SetFacts

@@ -1,0 +1,6 @@
+use borrow.Author.Needs.{needs}
+use Rattle.scale.proofs.SetFacts.{modes-within}
+use Rattle.scale.proofs.sets.ModesScale.within.Needs as need
+
+pub returns : need.returns
+returns c = modes-within (c .args .self .mask) (c .args .other .mask) (search needs)

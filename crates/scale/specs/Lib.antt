@@ -1,0 +1,4 @@
+pub mod Laws
+pub mod Forms
+pub mod Ranges
+pub mod Sets
