@@ -106,3 +106,8 @@ not-void low high e =
     (λ h. absurd (true≢false (sym (void-decides 1001 (range low high) (λ p u. range-use low high p u .2) .1 (λ p u. let w = range-use low high p u in omega arith)) ∙ e)))
     (λ h. (omega arith, omega arith))
     (cases-lt (min high 1000) low)
+
+-- what is void is within everything
+pub void-within : (l h m k : ℕ) → void 1001 (range l h) ≡ true → true ≡ within 1001 (range l h) (range m k)
+void-within l h m k e =
+    sym (within-decides 1001 (range l h) (range m k) (λ p u. range-use l h p u .2) .1 (λ p u. absurd (void-decides 1001 (range l h) (λ q w. range-use l h q w .2) .0 e p u)))

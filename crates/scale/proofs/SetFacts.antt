@@ -84,18 +84,14 @@ modes-meet a b p =
     (λ l. rw (no-mode a p l) (no-mode (bitAnd a b) p l))
     (cases-lt p 16)
 
-all-set : eachBelow 16 (bit 65535) ≡ true
-unfolding eachBelow bit
-all-set = refl
-
 none-set : eachBelow 16 (λ k. not (bit 0 k)) ≡ true
 unfolding eachBelow bit
 none-set = refl
 
--- all bits are set in the largest mask
-pub modes-loose : Loose 16 (modes 65535)
-modes-loose p =
-    ⊎-elim (λ l. mode-bit 65535 p l ∙ (each-use 16 (bit 65535) all-set p l ∙ sym (lt-ltb p 16 l))) (λ l. no-mode 65535 p l ∙ sym (le-ltb p 16 l)) (cases-lt p 16)
+-- a mask with all bits set has all modes
+pub modes-loose : (mask : ℕ) → eachBelow 16 (bit mask) ≡ true → Loose 16 (modes mask)
+modes-loose mask all p =
+    ⊎-elim (λ l. mode-bit mask p l ∙ (each-use 16 (bit mask) all p l ∙ sym (lt-ltb p 16 l))) (λ l. no-mode mask p l ∙ sym (le-ltb p 16 l)) (cases-lt p 16)
 
 -- 0 alone has no mode
 pub modes-void : (a : ℕ) → a < 2 ^ 16 → eqb a 0 ≡ void 16 (modes a)

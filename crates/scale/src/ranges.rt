@@ -54,10 +54,10 @@ impl Thousandths {
         ensures { λ r. ⌜ Ends self r ⌝ }
     {
         if self.void() {
-            None
-        } else {
-            Some((self.low, self.high.min(TOP)))
+            return None;
         }
+        let high = self.high.min(TOP);
+        Some((self.low, high))
     }
 }
 
@@ -93,8 +93,10 @@ pub impl Scale for Thousandths as ThousandthsScale {
     }
 
     fn within(self, other: Thousandths) -> bool {
-        let high = self.high.min(TOP);
-        self.low > high || other.low <= self.low && high <= other.high
+        if self.void() {
+            return true;
+        }
+        other.low <= self.low && self.high.min(TOP) <= other.high
     }
 
     fn void(self) -> bool {
@@ -132,4 +134,53 @@ pub fn ranges_apart() -> u8
     ensures { λ _. ⌜ Ranges-apart ⌝ }
 {
     0
+}
+
+#[cfg(test)]
+mod tests {
+    use super::*;
+    use std::test::*;
+
+    // What a raw value means: its form, and whether it is void.
+    fn shows(low: u16, high: u16, form: [u8; 4], void: bool) -> Result<(), Fail> {
+        let raw = Thousandths { low, high };
+        check_eq(raw.to_bytes(), form)?;
+        check_eq(raw.meet(Thousandths::loose()).to_bytes(), form)?;
+        check_eq(raw.void(), void)
+    }
+
+    #[test]
+    fn raw_values_go_by_their_points() -> Result<(), Fail> {
+        shows(0, 5000, [0, 0, 3, 232], false)?;
+        shows(990, 2000, [3, 222, 3, 232], false)?;
+        shows(7, 3, [0, 1, 0, 0], true)?;
+        shows(1001, 2000, [0, 1, 0, 0], true)?;
+        shows(0, 0, [0, 0, 0, 0], false)
+    }
+
+    #[test]
+    fn only_forms_are_read() -> Result<(), Fail> {
+        check(Thousandths::from_bytes([0, 0, 3, 232]).is_ok())?;
+        check(Thousandths::from_bytes([0, 1, 0, 0]).is_ok())?;
+        check(Thousandths::from_bytes([0, 0, 3, 233]).is_err())?;
+        check(Thousandths::from_bytes([0, 7, 0, 3]).is_err())?;
+        check(Thousandths::from_bytes([0, 2, 0, 0]).is_err())
+    }
+
+    #[test]
+    fn within_goes_by_points() -> Result<(), Fail> {
+        let empty = Thousandths { low: 7, high: 3 };
+        let top = Thousandths {
+            low: 990,
+            high: 2000,
+        };
+        check(empty.within(Thousandths::none()))?;
+        check(!top.within(empty))?;
+        check(top.within(Thousandths {
+            low: 990,
+            high: 1000,
+        }))?;
+        check(Thousandths::range(600, 400).is_err())?;
+        check(Thousandths::range(0, 1001).is_err())
+    }
 }

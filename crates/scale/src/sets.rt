@@ -22,14 +22,15 @@ impl Modes {
     pub fn of(mask: u16) -> Modes
         ensures { λ r. ⌜ r ≡ masked mask ⌝ }
     {
-        Modes { mask }
+        Modes { mask: mask }
     }
 
     // The mask of this set.
     pub fn mask(self) -> u16
         ensures { λ r. ⌜ r ≡ self .mask ⌝ }
     {
-        self.mask
+        let Modes { mask } = self;
+        mask
     }
 }
 
@@ -91,4 +92,30 @@ pub fn sets_apart() -> u8
     ensures { λ _. ⌜ Sets-apart ⌝ }
 {
     0
+}
+
+#[cfg(test)]
+mod tests {
+    use super::*;
+    use std::test::*;
+
+    #[test]
+    fn sets_of_modes() -> Result<(), Fail> {
+        let all = Modes::loose();
+        let three = Modes::of(8);
+        check_eq(all.to_bytes(), [255, 255, 0, 0])?;
+        check_eq(three.to_bytes(), [0, 8, 0, 0])?;
+        check(three.within(all) && !all.within(three))?;
+        check_eq(Modes::of(6).meet(Modes::of(3)).mask(), 2)?;
+        check_eq(Modes::of(0).to_bytes(), [0, 0, 0, 0])?;
+        check(Modes::of(0).void() && !three.void())
+    }
+
+    #[test]
+    fn only_forms_are_read() -> Result<(), Fail> {
+        check(Modes::from_bytes([255, 255, 0, 0]).is_ok())?;
+        check(Modes::from_bytes([0, 0, 0, 0]).is_ok())?;
+        check(Modes::from_bytes([0, 0, 1, 0]).is_err())?;
+        check(Modes::from_bytes([0, 0, 0, 1]).is_err())
+    }
 }

@@ -11,10 +11,10 @@ pub returns-then-void : need.returns-then-void
 returns-then-void c =
     void-decides 1001 (points (c .args .self)) (λ p h. range-use _ _ p h .2) .0 (sym (c .if-void .ensures tt))
 
-pub returns-else-void : need.returns-else-void
-returns-else-void c =
+pub returns : need.returns
+returns c =
     let some = not-void _ _ (sym (c .if-void .ensures tt)) in (
       range-from (c .args .self .low) (c .args .self .high) (c .args .self .low) (omega arith) (some .0) (some .1),
-      range-from (c .args .self .low) (c .args .self .high) (c .min .result) (omega arith) (omega arith) (omega arith),
+      range-from (c .args .self .low) (c .args .self .high) (c .min-high .result) (omega arith) (omega arith) (omega arith),
       λ p h. let u = range-use _ _ p h in (omega arith, omega arith),
     )

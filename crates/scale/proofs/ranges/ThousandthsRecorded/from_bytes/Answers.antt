@@ -17,5 +17,5 @@ returns-then-high-eq0 c =
     let high = c .from-be-bytes-high .result in
     let k : Canonical (ranging low high) = ⊎-elim (λ h. inl (h .0, h .1)) (λ h. inr (⊎-elim (λ v. ends (v .2) (v .3)) (λ v. ends (v .1) (v .2)) h)) (c .if-high-eq0 .either) in
     let e : halves low high ≡ c .args .bytes =
-    halves-of (c .args .bytes) low high (search needs) (search needs) (search needs) (c .from-be-bytes-low .ensures) (c .from-be-bytes-high .ensures) in
+    halves-of (c .args .bytes) low high (search needs) (search needs) (search needs) (search needs) (search needs) in
     record { reads = ap (λ s. halves (s .low) (s .high)) (sym (canonical-named (ranging low high) k)) ∙ e; canonical = k }

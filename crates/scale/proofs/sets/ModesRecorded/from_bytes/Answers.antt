@@ -11,5 +11,5 @@ pub returns-then-n1-eq0 : need.returns-then-n1-eq0
 returns-then-n1-eq0 c =
     let mask = c .from-be-bytes .result in
     let small : mask < 2 ^ 16 = omega arith in
-    let e : halves mask 0 ≡ c .args .bytes = halves-of (c .args .bytes) mask 0 (search needs) (search needs) (search needs) (c .from-be-bytes .ensures) (search needs) in
+    let e : halves mask 0 ≡ c .args .bytes = halves-of (c .args .bytes) mask 0 (search needs) (search needs) (search needs) (search needs) (search needs) in
     record { reads = ap (λ m. halves m 0) (mod-eq-of-lt small) ∙ e; canonical = small }

@@ -3,4 +3,4 @@ use Rattle.scale.proofs.SetFacts.{modes-within}
 use Rattle.scale.proofs.sets.ModesScale.within.Needs as need
 
 pub returns : need.returns
-returns c = modes-within (c .args .self .mask) (c .args .other .mask) (search needs)
+returns c = search (needs, modes-within)

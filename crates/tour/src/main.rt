@@ -1,0 +1,158 @@
+// A tour of the planner: what it does, on one building, printed step by step.
+//
+// So far: what is known of three parts of a water riser over three hours, and how bounds narrow as it is met.
+ghost use mathlib.Core.Path.{_≡_};
+ghost use Rattle.std.specs.Of.String.{string-bytes};
+ghost use Rattle.std.specs.Vec.{made};
+ghost use Rattle.tour.specs.Words.{inWords};
+use scale::Scale;
+use scale::Thousandths;
+use scale::ThousandthsScale;
+use std::alloc::AllocError;
+use std::alloc::Global;
+use std::error::AnyError;
+
+// Who wrote a sheet.
+#[derive(Clone, Copy)]
+enum Source {
+    Meter,
+    WorksOrder,
+    Notice,
+}
+
+impl Source {
+    fn name(self) -> &'static str {
+        match self {
+            Source::Meter => "the meter",
+            Source::WorksOrder => "the works order",
+            Source::Notice => "the tenant's notice",
+        }
+    }
+}
+
+// A part of the riser.
+#[derive(Clone, Copy, PartialEq)]
+enum Part {
+    Pump,
+    Valve,
+    Tap,
+}
+
+impl Part {
+    fn name(self) -> &'static str {
+        match self {
+            Part::Pump => "pump",
+            Part::Valve => "valve",
+            Part::Tap => "tap",
+        }
+    }
+}
+
+// One sheet: what somebody knows of the pressure at a part in an hour, as a range of thousandths.
+#[derive(Clone, Copy)]
+struct Sheet {
+    source: Source,
+    part: Part,
+    hour: u8,
+    low: u16,
+    high: u16,
+}
+
+const SHEETS: [Sheet; 6] = [
+    Sheet {
+        source: Source::Meter,
+        part: Part::Pump,
+        hour: 0,
+        low: 0,
+        high: 600,
+    },
+    Sheet {
+        source: Source::WorksOrder,
+        part: Part::Pump,
+        hour: 0,
+        low: 400,
+        high: 1000,
+    },
+    Sheet {
+        source: Source::WorksOrder,
+        part: Part::Valve,
+        hour: 1,
+        low: 0,
+        high: 0,
+    },
+    Sheet {
+        source: Source::Meter,
+        part: Part::Valve,
+        hour: 1,
+        low: 0,
+        high: 600,
+    },
+    Sheet {
+        source: Source::Notice,
+        part: Part::Tap,
+        hour: 2,
+        low: 0,
+        high: 399,
+    },
+    Sheet {
+        source: Source::WorksOrder,
+        part: Part::Tap,
+        hour: 2,
+        low: 400,
+        high: 1000,
+    },
+];
+
+// A bound in words: its lowest and highest point, or that it has none.
+fn in_words(heap: Global, ends: Option<(u16, u16)>) -> Result<String, AllocError>
+    ensures { λ r. ⌜ made r (λ s. string-bytes s ≡ inWords ends) ⌝ }
+{
+    match ends {
+        Some((low, high)) => format!(heap, "{low} to {high}"),
+        None => format!(heap, "void"),
+    }
+}
+
+// Meets what the sheets say of one part in one hour, sheet by sheet, and prints each step.
+fn narrow(rt: &LibcRuntime, part: Part, hour: u8) -> Result<(), AnyError> {
+    let mut bound = Thousandths::loose();
+    let start = in_words(rt.alloc(), bound.ends())?;
+    let name = part.name();
+    println!(
+        rt,
+        "The {name} in hour {hour} is known to be {start} at first."
+    )?;
+    for sheet in &SHEETS {
+        if sheet.part != part || sheet.hour != hour {
+            continue;
+        }
+        let Ok(said) = Thousandths::range(sheet.low, sheet.high) else {
+            return Err("a sheet has no range".into());
+        };
+        bound = bound.meet(said);
+        let source = sheet.source.name();
+        let known = in_words(rt.alloc(), said.ends())?;
+        let now = in_words(rt.alloc(), bound.ends())?;
+        println!(rt, "  {source} says {known}, so it is {now}.")?;
+    }
+    if bound.void() {
+        println!(
+            rt,
+            "  No pressure is left: these sheets contradict each other."
+        )?;
+    }
+    Ok(())
+}
+
+fn tour(rt: &LibcRuntime) -> Result<(), AnyError> {
+    println!(rt, "A riser feeds a tap through a pump and a valve.")?;
+    println!(rt, "Pressures are bounds in thousandths of full pressure.")?;
+    println!(rt)?;
+    narrow(rt, Part::Pump, 0)?;
+    narrow(rt, Part::Valve, 1)?;
+    narrow(rt, Part::Tap, 2)
+}
+
+fn main(rt: LibcRuntime) -> Result<(), AnyError> {
+    rt.report(tour(&rt))
+}
