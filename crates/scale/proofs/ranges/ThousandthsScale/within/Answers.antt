@@ -1,11 +1,12 @@
 use mathlib.Core.Path.{sym}
 use native.Mathlib.Omega.{arith}
+use borrow.Author.Needs.{needs}
 use borrow.Author.Tests.{leb-true, leb-false}
 use Rattle.scale.proofs.RangeFacts.{is-within, void-within, not-void}
 use Rattle.scale.proofs.ranges.ThousandthsScale.within.Needs as need
 
 pub returns-then-void : need.returns-then-void
-returns-then-void c = void-within _ _ _ _ (sym (c .if-void .ensures tt))
+returns-then-void c = let none = sym (c .if-void .ensures tt) in search (needs, void-within)
 
 pub returns-then-other-self : need.returns-then-other-self
 returns-then-other-self c =
