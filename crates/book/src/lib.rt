@@ -8,6 +8,27 @@ ghost use Rattle.points.specs.Points.{Points, Same};
 ghost use Rattle.book.specs.Meaning.{answered};
 use scale::Scale;
 
+mod counts;
+mod quorums;
+mod shares;
+mod steps;
+
+pub use counts::CountStep;
+pub use counts::CountStepStep;
+pub use counts::CountingBook;
+pub use quorums::Quorum;
+pub use quorums::QuorumBook;
+pub use quorums::QuorumTooLarge;
+pub use shares::Stair;
+pub use shares::StairStep;
+pub use shares::Stairs;
+pub use steps::LentListing;
+pub use steps::Listing;
+pub use steps::Step;
+pub use steps::StepBook;
+pub use steps::StepBookBook;
+pub use steps::step_laws_stand;
+
 pub trait Book<S: Scale> {
     // How many formulas the book has; they are numbered from 0.
     ghost formulas: { Self → ℕ };

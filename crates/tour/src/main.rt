@@ -1,10 +1,17 @@
 // A tour of the planner: what it does, on one building, printed step by step.
 //
-// So far: what is known of three parts of a water riser over three hours, and how bounds narrow as it is met.
+// So far: what is known of three parts of a water riser over three hours, how bounds narrow as it is met, and how feeders
+// press on a part.
 ghost use mathlib.Core.Path.{_≡_};
 ghost use Rattle.std.specs.Of.String.{string-bytes};
 ghost use Rattle.std.specs.Vec.{made};
 ghost use Rattle.tour.specs.Words.{inWords};
+use book::Book;
+use book::LentListing;
+use book::Stair;
+use book::StairStep;
+use book::Stairs;
+use book::StepBookBook;
 use scale::Scale;
 use scale::Thousandths;
 use scale::ThousandthsScale;
@@ -144,13 +151,49 @@ fn narrow(rt: &LibcRuntime, part: Part, hour: u8) -> Result<(), AnyError> {
     Ok(())
 }
 
+// The pressures from 0 to high.
+fn at_most(high: u16) -> Result<Thousandths, AnyError> {
+    match Thousandths::range(0, high) {
+        Ok(bound) => Ok(bound),
+        Err(_) => Err("a step has no range".into()),
+    }
+}
+
+// Prints how a formula of two steps presses on the tap, for each count of its feeders that are shut.
+fn press(rt: &LibcRuntime) -> Result<(), AnyError> {
+    let half = Stair {
+        formula: 0,
+        share: 500,
+        bound: at_most(200)?,
+    };
+    let all = Stair {
+        formula: 0,
+        share: 1000,
+        bound: at_most(0)?,
+    };
+    let steps = [half, all];
+    let book: Stairs<Thousandths> = Stairs::over(&steps);
+    println!(
+        rt,
+        "Two lines feed the tap. Where half of them are shut, it has at most 200, and where all are, 0."
+    )?;
+    for shut in 0..3 {
+        let bound: Thousandths = book.answer(0, shut, 2);
+        let said = in_words(rt.alloc(), bound.ends())?;
+        println!(rt, "  {shut} of 2 shut: {said}.")?;
+    }
+    Ok(())
+}
+
 fn tour(rt: &LibcRuntime) -> Result<(), AnyError> {
     println!(rt, "A riser feeds a tap through a pump and a valve.")?;
     println!(rt, "Pressures are bounds in thousandths of full pressure.")?;
     println!(rt)?;
     narrow(rt, Part::Pump, 0)?;
     narrow(rt, Part::Valve, 1)?;
-    narrow(rt, Part::Tap, 2)
+    narrow(rt, Part::Tap, 2)?;
+    println!(rt)?;
+    press(rt)
 }
 
 fn main(rt: LibcRuntime) -> Result<(), AnyError> {
