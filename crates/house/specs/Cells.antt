@@ -1,7 +1,10 @@
 -- Components, cells and facts of a house, by its sizes alone.
-use mathlib.Core.Bool.{Bool, _&&_}
-use Prim.Native.Nat.{ℕ, suc, _+_, _-_, _*_}
+use mathlib.Core.Bool.{Bool, true, false, _&&_}
+use mathlib.Core.Path.{_≡_}
+use Prim.Native.Nat.{ℕ, suc, _+_, _-_, _*_, _<_}
 use lib.Dec.{eqb, leb, ltb}
+use Rattle.std.specs.declared.option.Option.{Option}
+use Rattle.std.specs.declared.option.Option.the-variants.{Some, None}
 use Rattle.house.specs.declared.tables.Sizes.{Sizes}
 use Rattle.house.specs.declared.tables.Fact.{Fact}
 
@@ -24,6 +27,11 @@ place s t c l = (t * components s + c) * s .moving + (l - s .fixed)
 -- how many cells there are
 abbrev pub cellCount : Sizes → ℕ
 cellCount s = suc (s .last) * components s * s .moving
+
+-- a cell is found at its place, which is one of the cells', and nothing that is no cell is
+abbrev pub Placed : Sizes → ℕ → ℕ → ℕ → Option ℕ → Type 0
+Placed s t c l (Some i) = (inside s t c l ≡ true) × (i ≡ place s t c l) × (i < cellCount s)
+Placed s t c l None = inside s t c l ≡ false
 
 -- a fact is inside the house: its component and hours are, its label moves, and it does not end before it begins
 unfoldable pub factInside : {S : Type 0} → Sizes → Fact S → Bool

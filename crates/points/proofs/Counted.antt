@@ -5,7 +5,7 @@ use mathlib.Core.Path.{_≡_, refl, sym, subst, ap, _∙_}
 use Prim.Native.Nat.{ℕ, zero, suc, _+_, _<_, _≤_}
 use native.Mathlib.Nat.{eq-or-lt-of-le, le-of-suc-le-suc}
 use native.Mathlib.Omega.{arith}
-use Rattle.std.proofs.shelf.Tests.{true≢false, or-cases}
+use Rattle.std.proofs.shelf.Tests.{true≢false, or-cases, or-left, or-right}
 use Rattle.points.specs.Points.{someBelow, countBelow}
 
 pub some-use : (n : ℕ) (f : ℕ → Bool) → someBelow n f ≡ true → (k : ℕ) × (k < n) × (f k ≡ true)
@@ -56,3 +56,20 @@ count-one (suc n) f g k b l other here apart =
     last e =
         sum (f n) (g n) b (subst (λ (j : ℕ). f j ≡ (g j || b)) e here) (λ y. subst (λ (j : ℕ). g j ≡ false) e (apart y))
         (count-ext n f g (λ u lt. other u (omega arith)))
+
+-- no more pass than there are
+pub count-le : (n : ℕ) (f : ℕ → Bool) → countBelow n f ≤ n
+unfolding countBelow
+count-le zero f = omega arith
+count-le (suc n) f = one (f n) (count-le n f)
+  where
+    one : (b : Bool) → countBelow n f ≤ n → countBelow n f + cond b 1 0 ≤ suc n
+    one true le = omega arith
+    one false le = omega arith
+
+pub some-from : (n : ℕ) (f : ℕ → Bool) (k : ℕ) → k < n → f k ≡ true → someBelow n f ≡ true
+unfolding someBelow
+some-from zero f k l e = absurd (omega arith)
+some-from (suc n) f k l e =
+    ⊎-elim (λ q. or-right (someBelow n f) (f n) (subst (λ (j : ℕ). f j ≡ true) q e)) (λ lt. or-left (someBelow n f) (f n) (some-from n f k lt e))
+    (eq-or-lt-of-le (le-of-suc-le-suc l))

@@ -63,3 +63,9 @@ void-decides n a low = (
     not-yes : (t : Bool) → (t ≡ true → ⊥) → not t ≡ true
     not-yes true k = absurd (k refl)
     not-yes false k = refl
+
+-- two tests that follow from each other say the same
+pub same-test : (x y : Bool) → (x ≡ true → y ≡ true) → (y ≡ true → x ≡ true) → x ≡ y
+same-test true y to from = sym (to refl)
+same-test false true to from = from refl
+same-test false false to from = refl

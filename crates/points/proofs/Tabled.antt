@@ -1,12 +1,12 @@
 -- What the tests over a table say. Assumes nothing.
-use mathlib.Core.Bool.{Bool, true, false, _&&_}
+use mathlib.Core.Bool.{Bool, true, false, _&&_, _||_}
 use mathlib.Core.List.{List, [], _∷_}
 use mathlib.Core.Path.{_≡_, refl, sym, subst, ap}
 use Prim.Native.Nat.{ℕ, zero, suc, _<_, _≤_}
 use native.Mathlib.Omega.{arith}
 use lib.ListN.{length, getD}
-use Rattle.std.proofs.shelf.Tests.{and-parts, and-from}
-use Rattle.points.specs.Tables.{Every, atPlace, allPass}
+use Rattle.std.proofs.shelf.Tests.{and-parts, and-from, or-parts, or-from}
+use Rattle.points.specs.Tables.{Every, atPlace, allPass, onePasses}
 
 -- every record
 pub all-use : {A : Type 0} (f : A → Bool) (xs : List A) → allPass f xs ≡ true → Every xs (λ x. f x ≡ true)
@@ -54,3 +54,20 @@ unfolding atPlace
 at-from f [] i all = refl
 at-from f (y ∷ ys) zero all = all (omega arith) y refl
 at-from f (y ∷ ys) (suc i) all = at-from f ys i (λ l x q. all (omega arith) x q)
+
+pub all-ext : {A : Type 0} (f g : A → Bool) (xs : List A) → Every xs (λ x. f x ≡ g x) → allPass f xs ≡ allPass g xs
+unfolding allPass
+all-ext f g [] all = refl
+all-ext f g (y ∷ ys) all = rw (all 0 (omega arith) y refl, all-ext f g ys (λ i l x q. all (suc i) (omega arith) x q))
+
+-- no record
+pub none-use : {A : Type 0} (f : A → Bool) (xs : List A) → onePasses f xs ≡ false → Every xs (λ x. f x ≡ false)
+unfolding onePasses
+none-use f [] e i l x q = absurd (omega arith)
+none-use f (y ∷ ys) e zero l x q = subst (λ z. f z ≡ false) (sym q) (or-parts (f y) (onePasses f ys) e .0)
+none-use f (y ∷ ys) e (suc i) l x q = none-use f ys (or-parts (f y) (onePasses f ys) e .1) i (omega arith) x q
+
+pub none-from : {A : Type 0} (f : A → Bool) (xs : List A) → Every xs (λ x. f x ≡ false) → onePasses f xs ≡ false
+unfolding onePasses
+none-from f [] all = refl
+none-from f (y ∷ ys) all = or-from (f y) (onePasses f ys) (all 0 (omega arith) y refl) (none-from f ys (λ i l x q. all (suc i) (omega arith) x q))

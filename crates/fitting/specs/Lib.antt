@@ -1,0 +1,10 @@
+pub mod Course
+pub mod Tests
+pub mod Conditions
+pub mod Neighbours
+pub mod Edges
+pub mod Touched
+pub mod Fits
+pub mod Step
+pub mod Laws
+pub mod Example

@@ -1,0 +1,5 @@
+// Small houses, and what `examine` answers of them.
+#[cfg(test)]
+mod refusals;
+#[cfg(test)]
+mod tables;

@@ -1,0 +1,3 @@
+mod TableReads
+mod Verdict
+mod Feeding
