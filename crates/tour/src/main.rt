@@ -12,6 +12,14 @@ use book::Stair;
 use book::StairStep;
 use book::Stairs;
 use book::StepBookBook;
+use house::Body;
+use house::Defect;
+use house::Edge;
+use house::House;
+use house::Rule;
+use house::Sizes;
+use house::Test;
+use house::examine;
 use scale::Scale;
 use scale::Thousandths;
 use scale::ThousandthsScale;
@@ -185,6 +193,78 @@ fn press(rt: &LibcRuntime) -> Result<(), AnyError> {
     Ok(())
 }
 
+// Prints what an examination of a house found.
+fn tell(rt: &LibcRuntime, found: Result<(), Defect>) -> Result<(), AnyError> {
+    match found {
+        Ok(()) => println!(rt, "  It is accepted.")?,
+        Err(defect) => {
+            let number = defect.number();
+            let place = defect.place();
+            println!(rt, "  It is refused: {number} at {place}.")?
+        }
+    }
+    Ok(())
+}
+
+// Examines the riser as a house of three nodes, and once more with a line drawn twice.
+fn survey(rt: &LibcRuntime) -> Result<(), AnyError> {
+    let loose = Thousandths::loose();
+    let steps = [Stair {
+        formula: 0,
+        share: 500,
+        bound: at_most(200)?,
+    }];
+    let book: Stairs<Thousandths> = Stairs::over(&steps);
+    let edges = [Edge { from: 0, to: 2 }, Edge { from: 1, to: 2 }];
+    let twice = [Edge { from: 0, to: 2 }, Edge { from: 0, to: 2 }];
+    let tests = [Test {
+        label: 1,
+        bound: at_most(100)?,
+    }];
+    let rules = [Rule {
+        target: 1,
+        delay: 1,
+        onto: 255,
+        along: 255,
+        source: 255,
+        body: Body { first: 0, count: 1 },
+        formula: 0,
+    }];
+    let fixed = [loose; 5];
+    let sizes = Sizes {
+        nodes: 3,
+        edges: 2,
+        fixed: 1,
+        moving: 1,
+        last: 3,
+    };
+    let house = House {
+        sizes,
+        edges: &edges,
+        fixed: &fixed,
+        tests: &tests,
+        conditions: &[],
+        constraints: &[],
+        rules: &rules,
+    };
+    println!(
+        rt,
+        "As a house it has the pump, the valve and the tap as nodes, and two edges into the tap."
+    )?;
+    tell(rt, examine(&house, &book))?;
+    println!(rt, "With the line from the pump drawn twice:")?;
+    tell(
+        rt,
+        examine(
+            &House {
+                edges: &twice,
+                ..house
+            },
+            &book,
+        ),
+    )
+}
+
 fn tour(rt: &LibcRuntime) -> Result<(), AnyError> {
     println!(rt, "A riser feeds a tap through a pump and a valve.")?;
     println!(rt, "Pressures are bounds in thousandths of full pressure.")?;
@@ -193,7 +273,9 @@ fn tour(rt: &LibcRuntime) -> Result<(), AnyError> {
     narrow(rt, Part::Valve, 1)?;
     narrow(rt, Part::Tap, 2)?;
     println!(rt)?;
-    press(rt)
+    press(rt)?;
+    println!(rt)?;
+    survey(rt)
 }
 
 fn main(rt: LibcRuntime) -> Result<(), AnyError> {
