@@ -1,0 +1,8 @@
+mod Held
+mod Starting
+mod VoidCells
+mod Those
+mod Pressing
+mod Constraining
+mod Judging
+mod Hourly

@@ -1,0 +1,3 @@
+pub mod CellSet
+pub mod Narrowing
+pub mod Rows
