@@ -82,8 +82,8 @@ pub fn lay_fact<S: Scale>(sizes: Sizes, fact: &Fact<S>, cells: &mut [S], hour: u
 pub fn lay_facts<S: Scale>(sizes: Sizes, facts: &[Fact<S>], cells: &mut [S], hour: u8)
     ensures { λ _. ⌜ Narrowed (courseOf sizes (S·Scale .has) (now (cells .entry))) (atHour hour (factsGrant (S·Scale .has) (now (facts .entry)))) (courseOf sizes (S·Scale .has) (now (cells .exit))) ⌝ }
 {
-    for fact in facts {
-        lay_fact(sizes, fact, cells, hour);
+    for i in 0..facts.len() {
+        lay_fact(sizes, &facts[i], cells, hour);
     }
 }
 
