@@ -1,0 +1,4 @@
+pub mod Kinds
+pub mod Life
+pub mod Promise
+pub mod Replayed

@@ -1,0 +1,5 @@
+mod Found
+mod Leading
+mod Shifts
+pub mod Checked
+pub mod Seen
