@@ -56,9 +56,12 @@ mod tests {
 
     // The house of three nodes: 0 and 1 feed 2, which is served; where at least half of its feeders are at 100 or less, it
     // is at 200 or less an hour later.
-    fn play(
+    // `source` is the condition on neighbours, and `low` what a neighbour has to be within to qualify.
+    fn play_on(
         calls: &[Call<Thousandths>],
         rt: &LibcRuntime,
+        source: u8,
+        low: Thousandths,
     ) -> Result<Vec<Answer<Thousandths>>, Fail> {
         let loose = Thousandths::loose();
         let served = range(1000, 1000);
@@ -71,7 +74,7 @@ mod tests {
             },
             Test {
                 label: 1,
-                bound: range(0, 100),
+                bound: low,
             },
         ];
         let conditions = [Condition {
@@ -85,7 +88,7 @@ mod tests {
             delay: 1,
             onto: 0,
             along: 255,
-            source: 255,
+            source,
             body,
             formula: 0,
         }];
@@ -113,6 +116,13 @@ mod tests {
         let mut facts = [known(0, 7, 7, 0, 0); 4];
         let mut course = [range(3, 3); 10];
         Ok(replay(rt.alloc(), &house, &book, calls, &mut facts, &mut course)?)
+    }
+
+    fn play(
+        calls: &[Call<Thousandths>],
+        rt: &LibcRuntime,
+    ) -> Result<Vec<Answer<Thousandths>>, Fail> {
+        play_on(calls, rt, 255, range(0, 100))
     }
 
     fn look(hour: u8, component: u16) -> Call<Thousandths> {
@@ -188,5 +198,82 @@ mod tests {
         shows(answers[7], 0, 1000)?;
         check(matches!(answers[8], Answer::Entailed(true)))?;
         check(matches!(answers[9], Answer::Entailed(false)))
+    }
+
+    #[test]
+    fn a_strike_can_loosen(rt: LibcRuntime) -> Result<(), Fail> {
+        let calls = [
+            Call::File(known(0, 0, 100, 0, 1)),
+            Call::Settle,
+            Call::File(known(0, 0, 50, 0, 0)),
+            Call::Reopen,
+            Call::Strike(0),
+            Call::Settle,
+            look(1, 0),
+            look(2, 0),
+        ];
+        let answers = play(&calls, &rt)?;
+        check(answers.len() == 8)?;
+        check(matches!(answers[2], Answer::Misplaced))?;
+        check(matches!(answers[5], Answer::Settled))?;
+        shows(answers[6], 0, 1000)?;
+        match answers[7] {
+            Answer::Refused(refusal) => check(refusal.number() == 15 && refusal.place() == 0),
+            _ => Err(Fail::new("an hour past the last was seen")),
+        }
+    }
+
+    #[test]
+    fn who_is_not_eligible_does_not_count(rt: LibcRuntime) -> Result<(), Fail> {
+        // No feeder is served, so none is eligible, though one is low; and a void test is met by nobody.
+        let calls = [Call::File(known(0, 0, 100, 0, 0)), Call::Settle, look(1, 2)];
+        let served_only = play_on(&calls, &rt, 0, range(0, 100))?;
+        check(served_only.len() == 3)?;
+        shows(served_only[2], 0, 1000)?;
+        let never_low = play_on(&calls, &rt, 255, Thousandths::none())?;
+        check(never_low.len() == 3)?;
+        shows(never_low[2], 0, 1000)
+    }
+
+    #[test]
+    fn the_smallest_house(rt: LibcRuntime) -> Result<(), Fail> {
+        let house = House {
+            sizes: Sizes {
+                nodes: 1,
+                edges: 0,
+                fixed: 0,
+                moving: 1,
+                last: 0,
+            },
+            edges: &[],
+            fixed: &[],
+            tests: &[],
+            conditions: &[],
+            constraints: &[],
+            rules: &[],
+        };
+        let steps: [Stair<Thousandths>; 0] = [];
+        let book: Stairs<Thousandths> = Stairs::over(&steps);
+        let fact = Fact {
+            component: 0,
+            label: 0,
+            bound: range(5, 6),
+            from: 0,
+            to: 0,
+        };
+        let calls = [
+            Call::File(fact),
+            Call::Settle,
+            Call::Look {
+                hour: 0,
+                component: 0,
+                label: 0,
+            },
+        ];
+        let mut facts = [fact; 1];
+        let mut course = [Thousandths::loose(); 1];
+        let answers = replay(rt.alloc(), &house, &book, &calls, &mut facts, &mut course)?;
+        check(answers.len() == 3)?;
+        shows(answers[2], 5, 6)
     }
 }
