@@ -14,13 +14,14 @@ use Rattle.house.specs.declared.tables.House.{House}
 use Rattle.house.specs.Cells.{place}
 use Rattle.house.specs.Examine.{AllClear}
 use Rattle.fitting.specs.Course.{courseOf}
+use Rattle.engine.specs.Voids.{AllLoose}
 use Rattle.plan.specs.declared.Draft.{Draft}
 use Rattle.plan.specs.declared.Settled.{Settled}
 use Rattle.plan.specs.declared.refusals.Refusal.{Refusal}
 use Rattle.plan.specs.declared.outcomes.Outcome.{Outcome}
 use Rattle.plan.specs.declared.outcomes.Outcome.the-variants.{Settled as Came, Contradiction as Failed, Refused as Denied}
 use Rattle.plan.specs.Orders.{RefusedBy, fileChecks, strikeChecks, lookChecks, entailsChecks, settleChecks}
-use Rattle.plan.specs.Courses.{Satisfies, AllLoose, Settles, Contradicts}
+use Rattle.plan.specs.Courses.{Satisfies, Settles, Contradicts}
 
 -- x stands at place k of a list
 abbrev pub Stands : {A : Type 0} → List A → ℕ → A → Type 0
@@ -78,6 +79,6 @@ module _ {S : Type 0} (n : ℕ) (has : S → Points) (h : House S) (formulas : �
       × Contradicts n has h says (take (draft .count) table) (at .hour) (at .component) (at .label)
       × (at .place ≡ place (h .sizes) (at .hour) (at .component) (at .label))
       × (length cells′ ≡ length cells)
-      × AllLoose has n cells′
+      × AllLoose n has cells′
   SettleDoes draft table cells (Denied r draft′) cells′ =
       RefusedBy (settleChecks n has h formulas (draft .count) table (length cells)) r × (draft′ ≡ draft) × (cells′ ≡ cells)

@@ -5,8 +5,7 @@ use mathlib.Core.List.{List}
 use mathlib.Core.Path.{_≡_}
 use Prim.Native.Nat.{ℕ, _≤_}
 use lib.ListN.{length}
-use Rattle.points.specs.Points.{Points, Among, Loose}
-use Rattle.points.specs.Tables.{Every}
+use Rattle.points.specs.Points.{Points, Among}
 use Rattle.house.specs.declared.tables.Sizes.{Sizes}
 use Rattle.house.specs.declared.tables.House.{House}
 use Rattle.house.specs.declared.tables.Fact.{Fact}
@@ -25,10 +24,6 @@ module _ {S : Type 0} (has : S → Points) where
   -- the same at one hour: the cell of the fact, if the house has it, is within its bound
   unfoldable pub SatisfiesAt : Sizes → Course → Fact S → ℕ → Type 0
   SatisfiesAt s a f t = Cell s t (f .component) (f .label) → Among (a t (f .component) (f .label)) (has (f .bound))
-
-  -- every cell has all the points of a scale of n points
-  abbrev pub AllLoose : ℕ → List S → Type 0
-  AllLoose n cells = Every cells (λ x. Loose n (has x))
 
 -- on a scale of n points; `says` is what the book's formulas say at x of y
 module _ {S : Type 0} (n : ℕ) (has : S → Points) (h : House S) (says : ℕ → ℕ → ℕ → Points) (filed : List (Fact S)) where
