@@ -3,6 +3,18 @@ ghost use mathlib.Core.Path.{_≡_};
 ghost use Prim.Native.Nat.{ℕ};
 ghost use Rattle.record.specs.Frame.{Framed, numberOf};
 
+mod faults;
+mod reading;
+mod takes;
+
+pub use faults::BytesFault;
+pub use faults::DefectFound;
+pub use faults::Fault;
+pub use faults::FrameJudged;
+pub use faults::HouseFault;
+pub use reading::Content;
+pub use reading::read;
+
 // The longest file, in bytes.
 const LONGEST: usize = 32_768;
 

@@ -1,0 +1,4 @@
+mod Filling
+mod Taking
+mod Edges
+mod Whole
