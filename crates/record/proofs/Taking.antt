@@ -2,10 +2,10 @@
 use mathlib.Core.List.{List, [], _∷_, _++_}
 use mathlib.Core.Logic.{⊎-elim}
 use mathlib.Core.Path.{_≡_, refl, sym, ap, _∙_}
-use Prim.Native.Nat.{ℕ, _+_, _*_, _<_, _≤_, min}
+use Prim.Native.Nat.{ℕ, _+_, _<_, _≤_}
 use native.Mathlib.Nat.{mul-comm}
 use native.Mathlib.Omega.{arith}
-use lib.ListN.{length, getD, take, drop}
+use lib.ListN.{length, getD, take}
 use Rattle.std.proofs.shelf.Bits.{mul-add-lt}
 use Rattle.std.proofs.shelf.Lists.{getD-append-left, take-append-le, take-at, length-push, getD-push}
 use Rattle.std.proofs.shelf.Tests.{cases-lt}
@@ -28,7 +28,7 @@ use Rattle.record_entry.specs.Entries.{Rooms, roomsOf, Kept, Fits, Unfit, Loose
 use Rattle.record_entry.specs.Parts.{edgeIn, testIn, conditionIn, constraintIn, ruleIn, stepIn, factIn, markIn, fixedPlace}
 use Rattle.record.specs.declared.faults.RecordFault.{RecordFault}
 use Rattle.record.specs.declared.faults.RecordFault.the-variants.{Line, Entry}
-use Rattle.record.specs.Contents.{pick, Filled, boundAt, Stays, Laid, countsAfter, Held, fixedPlaces}
+use Rattle.record.specs.Contents.{pick, boundAt, Stays, countsAfter, fixedPlaces}
 use Rattle.record.specs.Faults.{placed}
 use Rattle.record.specs.Takes.{LooseBelow, MarkedLoose, StillLoose, Enters, Denied, First, Taken, TakeDoes, TakeAllDoes}
 use Rattle.record.proofs.Filling.{filled-long, picked-more, laid-more, InPlaces}

@@ -13,7 +13,7 @@ use Rattle.record_line.specs.declared.Record.{Record}
 use Rattle.record_entry.specs.declared.Counts.{Counts}
 use Rattle.record_entry.specs.declared.Tables.{Tables}
 use Rattle.record_entry.specs.Entries.{Rooms}
-use Rattle.record_entry.specs.Parts.{Mark, edgeIn, testIn, conditionIn, constraintIn, ruleIn, stepIn, factIn, markIn}
+use Rattle.record_entry.specs.Parts.{Mark, edgeIn, testIn, conditionIn, constraintIn, ruleIn, stepIn, factIn}
 
 -- one part more, or none
 abbrev pub add : {A : Type 0} → Option A → List A → List A

@@ -1,5 +1,5 @@
 -- Which records of a file are taken, and which one is refused.
-use mathlib.Core.List.{List, [], _∷_}
+use mathlib.Core.List.{List, []}
 use mathlib.Core.Path.{_≡_}
 use Prim.Native.Nat.{ℕ, _<_}
 use lib.ListN.{length, getD, take}
@@ -51,6 +51,7 @@ module _ {B : Type 0} (n : ℕ) (has : B → Points) where
   Denied s room rs = Unfit s (countsAfter s room rs) (length (pick factIn rs)) room (StillLoose s rs)
 
 module _ {B : Type 0} (n : ℕ) (has : B → Points) (form : B → List ℕ) where
+  -- a record is read and then entered; a refusal leaves everything
   abbrev pub TakeDoes : List ℕ → Sizes → Tables B → Counts → Draft → Result (Unit {0}) RecordFault → Tables B → Counts → Draft → Type 0
   TakeDoes line s t c d (Ok u) t′ c′ d′ = (r : Record B) × Parsed form line (Ok r) × EnterDoes n has s r t c d (Ok u) t′ c′ d′
   TakeDoes line s t c d (Err (Line fault)) t′ c′ d′ = Parsed form line (Err fault) × Kept t t′ × (c′ ≡ c) × (d′ ≡ d)
@@ -73,12 +74,15 @@ module _ {B : Type 0} (n : ℕ) (has : B → Points) (form : B → List ℕ) whe
     abbrev pub Stopped : ℕ → (List (Record B) → Type 0) → Tables B → Type 0
     Stopped at Why t′ = (rs : List (Record B)) × (length rs ≡ at) × (at < length lines) × Taken lines s t rs t′ × Why rs
 
+    -- the record with this number is refused as it is read
     abbrev pub NotARecord : ℕ → LineFault → List (Record B) → Type 0
     NotARecord at fault rs = Parsed form (getD lines at []) (Err fault)
 
+    -- it is read, and refused as it is entered after the records rs
     abbrev pub NotEntered : ℕ → EntryFault → List (Record B) → Type 0
     NotEntered at fault rs = (r : Record B) × Parsed form (getD lines at []) (Ok r) × Denied n has s (roomsOf t) rs r fault
 
+    -- every record is taken, or all before the first that is refused
     abbrev pub TakeAllDoes : Result (Draft × Counts) Fault → Tables B → Type 0
     TakeAllDoes (Ok x) t′ =
         (rs : List (Record B))

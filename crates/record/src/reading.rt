@@ -1,6 +1,6 @@
 // Reading a record file.
 ghost use mathlib.Core.Path.{_≡_};
-ghost use Prim.Native.Nat.{ℕ, _≤_};
+ghost use Prim.Native.Nat.{_≤_};
 ghost use lib.ListN.{length};
 ghost use Rattle.record_entry.specs.Entries.{Lent};
 ghost use Rattle.record.specs.Reads.{edgeRecords, sizesOf, Loosened, ReadDoes};

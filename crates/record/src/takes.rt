@@ -1,6 +1,5 @@
 // Taking the records of a file one by one.
 ghost use mathlib.Core.Path.{_≡_};
-ghost use Prim.Native.Nat.{ℕ};
 ghost use lib.ListN.{length};
 ghost use Rattle.record_entry.specs.Entries.{Lent};
 ghost use Rattle.record.specs.Contents.{fixedPlaces};

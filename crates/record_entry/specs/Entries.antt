@@ -1,8 +1,7 @@
 -- What entering a record does.
-use mathlib.Core.Bool.{Bool, true}
-use mathlib.Core.List.{List, [], _∷_}
+use mathlib.Core.List.{List}
 use mathlib.Core.Path.{_≡_}
-use Prim.Native.Nat.{ℕ, _+_, _*_, _<_, _≤_}
+use Prim.Native.Nat.{ℕ, _+_, _<_, _≤_}
 use lib.ListN.{length, getD, set}
 use denote.Ref.{name}
 use Rattle.points.specs.Points.{Points, Loose}
@@ -15,7 +14,6 @@ use Rattle.house.specs.declared.tables.Fact.{Fact}
 use Rattle.house.specs.Cells.{components}
 use Rattle.house.specs.Examine.{AllClear}
 use Rattle.plan.specs.declared.Draft.{Draft}
-use Rattle.plan.specs.declared.refusals.Refusal.{Refusal}
 use Rattle.plan.specs.Orders.{RefusedBy, fileChecks}
 use Rattle.record_line.specs.declared.Record.{Record}
 use Rattle.record_line.specs.declared.Record.the-variants.{Sizes as S, Edge as E, Fixed as X, Test as T, Condition as C, Constraint as K, Rule as R, Step as Q, Fact as F}
@@ -35,6 +33,7 @@ abbrev pub Marked : {B : Type 0} → Option (Mark B) → List B → List B → T
 Marked None t t′ = t′ ≡ t
 Marked (Some m) t t′ = t′ ≡ set t (m .place) (m .bound)
 
+-- an item stands behind the counted ones; a full table stays as it is
 abbrev pub PutDoes : {A : Type 0} → A → List A → ℕ → Result (Unit {0}) EntryFault → List A → ℕ → Type 0
 PutDoes x t n (Ok _) t′ n′ = (n < length t) × (t′ ≡ set t n x) × (n′ ≡ n + 1)
 PutDoes x t n (Err House) t′ n′ = (length t ≤ n) × (t′ ≡ t) × (n′ ≡ n)
@@ -50,6 +49,7 @@ abbrev pub LooseAt : {B : Type 0} → ℕ → (B → Points) → List B → ℕ 
 LooseAt {B} n has fixed p = (x : B) → x ≡ getD fixed p x → Loose n (has x)
 
 module _ {B : Type 0} (n : ℕ) (has : B → Points) where
+  -- a bound stands at its place, where that can take one; else the table stays as it is
   abbrev pub LayDoes : Sizes → ℕ → ℕ → B → List B → Result (Unit {0}) EntryFault → List B → Type 0
   LayDoes s c l b t (Ok _) t′ = Open s c l (length t) (LooseAt n has t) × (t′ ≡ set t (fixedPlace s c l) b)
   LayDoes s c l b t (Err House) t′ = (Open s c l (length t) (LooseAt n has t) → ⊥) × (t′ ≡ t)

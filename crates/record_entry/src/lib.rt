@@ -4,7 +4,6 @@
 // them stays. A fixed bound goes to the place of its component and label, which has to be loose still.
 ghost use mathlib.Core.Path.{_≡_};
 ghost use mathlib.Core.Bool.{true};
-ghost use Prim.Native.Nat.{ℕ};
 ghost use Rattle.points.specs.Points.{Iff, Loose};
 ghost use Rattle.record_entry.specs.Entries.{Lent, PutDoes, LayDoes, EnterDoes};
 ghost use Rattle.record_entry.specs.declared.EntryFault.the-variants.{Plan as PlanCase};

@@ -9,7 +9,6 @@ use lib.Dec.{eqb}
 use lib.ListN.{getD}
 use Rattle.std.specs.declared.result.Result.{Result}
 use Rattle.std.specs.declared.result.Result.the-variants.{Ok, Err}
-use Rattle.scale.specs.declared.forms.NotABound.{NotABound}
 use Rattle.record_line.specs.declared.LineFault.{LineFault}
 use Rattle.record_line.specs.declared.LineFault.the-variants.{Bytes, Scale}
 use Rattle.record_line.specs.declared.Record.{Record}

@@ -2,7 +2,6 @@
 //
 // A letter names the bytes that follow it. Numbers have their high byte first, and a byte without a name is 0.
 ghost use mathlib.Core.Path.{_≡_};
-ghost use Prim.Native.Nat.{ℕ};
 ghost use Rattle.record_line.specs.Lines.{Cleared, Bounded, Parsed};
 ghost use Rattle.record_line.specs.declared.LineFault.the-variants.{Scale as ScaleCase};
 use book::Stair;
