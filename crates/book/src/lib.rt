@@ -1,6 +1,8 @@
 // Books of formulas: how neighbours press on a part.
 //
 // A formula says a bound for every count of neighbours: x of them qualify among y that are eligible.
+#![tactic(auto)]
+
 ghost use Rattle.std.specs.Prelude.{◌≡◌, ℕ, ◌≤◌, true};
 ghost use Rattle.points.specs.Points.{Points, Same};
 ghost use Rattle.book.specs.Meaning.{answered};

@@ -1,4 +1,6 @@
 // Examples of books: stairs, counting books and quorums. Bounds are compared by their forms.
+#![tactic(auto)]
+
 use book::{Book, CountStep, CountingBook, Quorum, Stair, Stairs};
 use scale::{Recorded, Thousandths};
 

@@ -3,6 +3,8 @@
 //
 // The arguments are a seed, how many files there are in each scale, and how many lists of calls. It prints how often
 // each outcome came and both agreed on it; of a difference it prints the file and both texts.
+#![tactic(auto)]
+
 mod bounds;
 mod compare;
 mod damage;

@@ -3,6 +3,8 @@
 // What facts, rules and carrying ask of an hour depends on earlier hours alone, and constraints act within one component
 // at one hour. So each hour is settled when the ones before it are: it begins as the hour before, loose where it is
 // touched, and is narrowed by facts, by rules and by constraints.
+#![tactic(auto)]
+
 ghost use Rattle.std.specs.Prelude.{◌≡◌, ◌+◌, ◌≤◌, min, length};
 ghost use Rattle.house.specs.Cells.{components};
 ghost use Rattle.fitting.specs.Course.{course_of};

@@ -1,4 +1,6 @@
 // The examination of a house: whether its tables make one, and if not, what is wrong first.
+#![tactic(auto)]
+
 mod checks;
 mod defects;
 

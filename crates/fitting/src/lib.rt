@@ -2,6 +2,8 @@
 //
 // The definitions stand in `specs/`: `Fits` says when a course fits, `Step` what the joint step is, `Laws` what is
 // proved of both. There is no code here that runs: each function holds a theorem as its contract.
+#![tactic(auto)]
+
 ghost use Rattle.std.specs.Prelude.{ℕ, ◌≤◌, List};
 ghost use Rattle.fitting.specs.Edges.{Graph, CountLaws};
 ghost use Rattle.fitting.specs.Example.{ExampleStands};

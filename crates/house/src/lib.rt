@@ -1,4 +1,6 @@
 // The house: a building as a network, in six tables that the caller lends, and where its cells stand.
+#![tactic(auto)]
+
 mod cells;
 mod tables;
 

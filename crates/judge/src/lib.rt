@@ -2,6 +2,8 @@
 //
 // Nothing is asked of what is handed in: where a table or the cells have no such place there is no point, and the
 // definitions say what follows.
+#![tactic(auto)]
+
 ghost use Rattle.std.specs.Prelude.{◌≡◌, ℕ, true, false};
 ghost use Rattle.points.specs.Points.{Same};
 ghost use Rattle.fitting.specs.Course.{course_of};

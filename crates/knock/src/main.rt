@@ -1,4 +1,6 @@
 // Reads a record file in thousandths from standard input, whole, and prints its text.
+#![tactic(auto)]
+
 use report::report;
 use scale::Thousandths;
 use std::io::Read;

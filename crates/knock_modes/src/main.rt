@@ -1,4 +1,6 @@
 // Reads a record file in modes from standard input, whole, and prints its text.
+#![tactic(auto)]
+
 use report::report;
 use scale::Modes;
 use std::io::Read;

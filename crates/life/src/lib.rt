@@ -1,4 +1,6 @@
 // Lives of a plan: lists of calls, what each answered, and what is promised of every such list.
+#![tactic(auto)]
+
 ghost use Rattle.house.specs.declared.tables.House.{House as House'};
 ghost use Rattle.examining.specs.Examine.{Accepted};
 ghost use Rattle.life.specs.Promise.{Kept};

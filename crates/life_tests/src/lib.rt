@@ -1,4 +1,6 @@
 // Plans settled through the calls: a house of three nodes, its contradiction, and what a planner must not do.
+#![tactic(auto)]
+
 use book::{Book, Stair, Stairs};
 use house::{Body, Condition, Edge, Fact, House, Rule, Sizes, Test};
 use life::{Answer, Call, replay};

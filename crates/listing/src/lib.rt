@@ -1,4 +1,6 @@
 // The listing of a course: a line for each cell that is not loose, in the order of cells.
+#![tactic(auto)]
+
 ghost use Rattle.std.specs.Prelude.{◌≡◌, ◌++◌, length, IfOk, string_bytes, OnOk};
 ghost use Rattle.listing.specs.Lines.{is_loose_lem, cell_line, line_of, listing_of};
 

@@ -7,6 +7,8 @@
 //
 // A call refuses at the first check that fails, in an order of its own, and then leaves the plan and all that was lent as
 // they were. `Refusal` gives each refusal its number and its place.
+#![tactic(auto)]
+
 ghost use Rattle.house.specs.declared.tables.House.{House as House'};
 ghost use Rattle.plan.specs.Steps.{StepsLead};
 

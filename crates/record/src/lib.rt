@@ -1,4 +1,6 @@
 // Record files: a building and what is known of it, in records of sixteen bytes.
+#![tactic(auto)]
+
 ghost use Rattle.std.specs.Prelude.{◌≡◌, ℕ};
 ghost use Rattle.record.specs.Frame.{Framed, number_of};
 

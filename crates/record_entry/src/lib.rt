@@ -2,6 +2,8 @@
 //
 // A table fills from its front, so that its records stand in the order in which they were entered, and what stood behind
 // them stays. A fixed bound goes to the place of its component and label, which has to be loose still.
+#![tactic(auto)]
+
 ghost use Rattle.std.specs.Prelude.{◌≡◌, true};
 ghost use Rattle.points.specs.Points.{Iff, Loose};
 ghost use Rattle.record_entry.specs.Entries.{Lent, PutDoes, LayDoes, EnterDoes};

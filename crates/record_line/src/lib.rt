@@ -1,6 +1,8 @@
 // One record of a record file: sixteen bytes, of which the first is a letter.
 //
 // A letter names the bytes that follow it. Numbers have their high byte first, and a byte without a name is 0.
+#![tactic(auto)]
+
 ghost use Rattle.std.specs.Prelude.{◌≡◌};
 ghost use Rattle.record_line.specs.Lines.{Cleared, Bounded, Parsed};
 ghost use Rattle.record_line.specs.declared.LineFault.TheVariants.{Scale as ScaleCase};

@@ -1,4 +1,6 @@
 // From the bytes of a record file to the text that the programs print.
+#![tactic(auto)]
+
 ghost use Rattle.std.specs.Prelude.{◌≡◌, IfOk, string_bytes};
 ghost use Rattle.report.specs.Text.{refused_line, clash_line, Texted, Concluded, Told, Reported};
 

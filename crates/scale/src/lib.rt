@@ -3,6 +3,8 @@
 // A scale has finitely many points, numbered from 0. A bound means a set of points. Everything a scale does is said by
 // the points of the bounds alone, so two values of one type may mean the same bound: no code over a scale compares
 // bounds by `==`, and "the same" is "within" both ways.
+#![tactic(auto)]
+
 ghost use Rattle.std.specs.Prelude.{◌≡◌, ℕ, ◌<◌, true};
 ghost use Rattle.points.specs.Points.{Points, Loose, Meet, within, void};
 ghost use Rattle.scale.specs.Laws.{Laws};

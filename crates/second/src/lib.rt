@@ -2,6 +2,8 @@
 // written apart from the other crates and shares no code with them. Everything is done as plainly as the rules say it: a
 // bound is the set of its points, and the joint step is repeated from the loosest course until nothing changes. It is
 // proved safe and to return, and nothing more.
+#![tactic(auto)]
+
 mod calls;
 mod examination;
 mod network;

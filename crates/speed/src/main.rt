@@ -3,6 +3,8 @@
 // The arguments are the scale, `thousandths` or `modes`, and how often to settle. The first line of standard output says
 // what settling came to, the second how many cells are not loose, and a digest of all cells. Standard error has the
 // nanoseconds of each settle.
+#![tactic(auto)]
+
 mod digests;
 mod settles;
 

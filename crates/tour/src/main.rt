@@ -1,6 +1,8 @@
 // A tour of the planner: a shutdown worked from open to entails, printed step by step.
 //
 // Two switchboards feed a lift. The north board is shut down for an hour; what does that knock on to?
+#![tactic(auto)]
+
 ghost use Rattle.std.specs.Prelude.{◌≡◌, IfOk, string_bytes};
 ghost use Rattle.tour.specs.Words.{in_words};
 

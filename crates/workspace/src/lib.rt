@@ -1,4 +1,6 @@
 // What a program holds while it works on a record file: room for the tables, and the house that a file describes there.
+#![tactic(auto)]
+
 ghost use Rattle.std.specs.Prelude.{◌≡◌, take, replicate, IfOk};
 ghost use Rattle.workspace.specs.Spaces.{Roomy, Housed};
 

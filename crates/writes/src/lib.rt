@@ -2,6 +2,8 @@
 //
 // Each contract says what the write makes of the course that the cells mean. Where there is no such cell nothing is
 // written.
+#![tactic(auto)]
+
 ghost use Rattle.std.specs.Prelude.{◌≡◌, ◌≤◌, not};
 ghost use Rattle.points.specs.Points.{within};
 ghost use Rattle.house.specs.Cells.{covers};
