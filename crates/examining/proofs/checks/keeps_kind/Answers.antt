@@ -20,6 +20,6 @@ pub returns-else-a : goal.returns-else-a
 unfolding condition_kept implies
 returns-else-a g c = search rules
 
-pub returns-in-default : goal.returns-in-default
+pub returns-in_default : goal.returns-in_default
 unfolding condition_kept implies
-returns-in-default g c = search rules
+returns-in_default g c = search rules

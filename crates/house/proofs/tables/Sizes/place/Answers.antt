@@ -3,15 +3,15 @@ use Rattle.house.specs.Cells.{components}
 use Rattle.house.proofs.Places.{inside_use, place_lt, row_few}
 use Rattle.house.proofs.tables.Sizes.place.Goals as goal
 
-pub overflow-mul-result : goal.overflow-mul-result
-overflow-mul-result c =
+pub overflow_mul-result : goal.overflow_mul-result
+overflow_mul-result c =
     omega (arith, row_few c.args.hour c.components.result c.args.component c.args.self.moving (omega arith) (omega arith) (omega arith) (omega arith))
 
-pub overflow-sub-result : goal.overflow-sub-result
-overflow-sub-result c = let i = inside_use _ _ _ _ (sym c.if-inside.ensures) in omega (arith, i.fixed)
+pub overflow_sub-result : goal.overflow_sub-result
+overflow_sub-result c = let i = inside_use _ _ _ _ (sym c.if-inside.ensures) in omega (arith, i.fixed)
 
-pub overflow-add-result : goal.overflow-add-result
-overflow-add-result c =
+pub overflow_add-result : goal.overflow_add-result
+overflow_add-result c =
     omega (arith, row_few c.args.hour c.components.result c.args.component c.args.self.moving (omega arith) (omega arith) (omega arith) (omega arith))
 
 pub returns-then-inside : goal.returns-then-inside
