@@ -5,4 +5,4 @@ use Rattle.engine.proofs.settle_hour.Goals as goal
 pub returns : goal.returns
 returns g c =
     λ ready judged whole last before. settled_more g.S.Scale.size g.S.Scale.has c.args.house.now _ _ ready.countable.few_nodes (g.met.B.Book.narrows c.args.book.now) ready.delays c.args.hour _ _ _ _ _
-    (c.start-hour.ensures ready.countable judged whole last) c.lay-facts.ensures (c.apply-rules.ensures ready judged) c.constrain-hour.ensures.narrowed (c.constrain-hour.ensures.rests (omega (arith, ready.few_components))) before
+    (c.start_hour.ensures ready.countable judged whole last) c.lay_facts.ensures (c.apply_rules.ensures ready judged) c.constrain_hour.ensures.narrowed (c.constrain_hour.ensures.rests (omega (arith, ready.few_components))) before

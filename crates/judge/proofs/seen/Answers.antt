@@ -3,7 +3,7 @@ use Rattle.judge.proofs.TableReads.{seen_fixed, seen_else, cell_read, cell_none}
 use Rattle.judge.proofs.seen.Goals as goal
 
 pub returns-then-label-house : goal.returns-then-label-house
-returns-then-label-house g c = seen_fixed g.S.Scale.has _ _ _ _ _ _ c.if-label-house.true c.fixed-bound.ensures
+returns-then-label-house g c = seen_fixed g.S.Scale.has _ _ _ _ _ _ c.if-label-house.true c.fixed_bound.ensures
 
 pub returns-in-Some : goal.returns-in-Some
 returns-in-Some g c =

@@ -6,4 +6,4 @@ pub returns-then-i-house : goal.returns-then-i-house
 returns-then-i-house g c = search (rules, test_none)
 
 pub returns : goal.returns
-returns g c = test_met_read _ _ _ _ _ _ _ c.index-house-i.result _ _ (search rules) c.seen-cell.ensures c.met-by.ensures
+returns g c = test_met_read _ _ _ _ _ _ _ c.index-house-i.result _ _ (search rules) c.seen-cell.ensures c.met_by.ensures

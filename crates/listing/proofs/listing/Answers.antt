@@ -8,7 +8,7 @@ loop-at-init g c = c.new-out.ensures.bytes ∙ listing_none _ _ _ _ c.args.cours
 
 pub loop-at-preserved : goal.loop-at-preserved
 loop-at-preserved g c =
-    listing_more _ _ _ _ c.loop-at.at c.args.course.now c.index-course-at.result _ _ c.loop-at-test.true c.index-course-at.is c.loop-at.invariant c.in-ok-put-cell.ensures
+    listing_more _ _ _ _ c.loop-at.at c.args.course.now c.index-course-at.result _ _ c.loop-at-test.true c.index-course-at.is c.loop-at.invariant c.in_ok-put_cell.ensures
 
 pub returns : goal.returns
 returns g c = rw (take_all c.loop-at.at c.args.course.now c.loop-at-test.false) at c.loop-at.invariant

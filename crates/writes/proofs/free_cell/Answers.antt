@@ -5,5 +5,5 @@ use Rattle.writes.proofs.free_cell.Goals as goal
 pub returns-then-at-cells : goal.returns-then-at-cells
 returns-then-at-cells g c = search (rules, cell_freed)
 
-pub returns-in-default : goal.returns-in-default
-returns-in-default g c = λ _. none_freed _ _ _ _ _ _ _ c.in-default.ensures
+pub returns-in_default : goal.returns-in_default
+returns-in_default g c = λ _. none_freed _ _ _ _ _ _ _ c.in_default.ensures

@@ -9,5 +9,5 @@ pub returns-else-at-cells : goal.returns-else-at-cells
 returns-else-at-cells g c =
     void_narrowed _ _ _ _ _ _ _ (cell_past _ _ _ _ _ _ c.in-Some.at c.in-Some.ensures.1 c.if-at-cells.false)
 
-pub returns-in-default : goal.returns-in-default
-returns-in-default g c = void_narrowed _ _ _ _ _ _ _ (cell_none _ _ _ _ _ _ c.in-default.ensures)
+pub returns-in_default : goal.returns-in_default
+returns-in_default g c = void_narrowed _ _ _ _ _ _ _ (cell_none _ _ _ _ _ _ c.in_default.ensures)

@@ -2,9 +2,9 @@ use Rattle.std.proofs.Common.{true, false}
 use Rattle.writes.proofs.CellSet.{cell_narrowed, void_narrowed, cell_past, cell_none, none_tells, read_tells, read_within}
 use Rattle.writes.proofs.tighten.Goals as goal
 
-pub returns-in-default : goal.returns-in-default
-returns-in-default g c =
-    let none = cell_none g.S.Scale.has c.args.sizes c.args.cells.now c.args.hour c.args.component c.args.label c.in-default.ensures in
+pub returns-in_default : goal.returns-in_default
+returns-in_default g c =
+    let none = cell_none g.S.Scale.has c.args.sizes c.args.cells.now c.args.hour c.args.component c.args.label c.in_default.ensures in
     record { narrowed = void_narrowed _ _ _ _ _ _ _ none; tells = none_tells _ _ _ _ _ _ _ _ none }
 
 pub returns-then-at-cells : goal.returns-then-at-cells

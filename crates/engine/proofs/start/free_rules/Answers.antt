@@ -10,7 +10,7 @@ loop-rule-init g c = λ _ _ _. ruled_none _ _ _ c.args.house.now.rules.now _ _
 pub loop-rule-preserved : goal.loop-rule-preserved
 loop-rule-preserved g c =
     λ a b w. ruled_more _ _ _ c.args.house.now.rules.now _ _ _ _ _ _ c.loop-rule-test.true (read_again c.args.house.now.rules.now _ _ c.loop-rule-test.true) (c.loop-rule.invariant a b w)
-    (c.free-rule.ensures a b (c.loop-rule.auto.cells ∙ w))
+    (c.free_rule.ensures a b (c.loop-rule.auto.cells ∙ w))
 
 pub returns : goal.returns
 returns g c = λ a b w. rw (take_all c.loop-rule.rule-index c.args.house.now.rules.now c.loop-rule-test.false) at (c.loop-rule.invariant a b w)

@@ -8,6 +8,6 @@ returns-then-hour-eq0 g c = λ _ _ w _. loose_started _ _ _ _ _ _ _ c.if-hour-eq
 
 pub returns : goal.returns
 returns g c =
-    λ a b w last. later_started _ _ _ _ _ _ _ _ _ (cells_inside _ _ _ g.met.S.Scale.inside _) (omega (arith, c.if-hour-eq0.false)) last (c.repeat-hour.ensures w last)
-    (c.free-facts.ensures (c.repeat-hour.auto.cells ∙ w))
-    (c.free-rules.ensures a b (c.free-facts.auto.cells ∙ (c.repeat-hour.auto.cells ∙ w)))
+    λ a b w last. later_started _ _ _ _ _ _ _ _ _ (cells_inside _ _ _ g.met.S.Scale.inside _) (omega (arith, c.if-hour-eq0.false)) last (c.repeat_hour.ensures w last)
+    (c.free_facts.ensures (c.repeat_hour.auto.cells ∙ w))
+    (c.free_rules.ensures a b (c.free_facts.auto.cells ∙ (c.repeat_hour.auto.cells ∙ w)))

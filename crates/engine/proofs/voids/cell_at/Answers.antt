@@ -4,8 +4,8 @@ use Rattle.house.proofs.Places.{cell_at, hour_at, component_at}
 use Rattle.engine.proofs.VoidCells.{cell_found}
 use Rattle.engine.proofs.voids.cell_at.Goals as goal
 
-pub overflow-cast-result : goal.overflow-cast-result
-overflow-cast-result c =
+pub overflow_cast-result : goal.overflow_cast-result
+overflow_cast-result c =
     let lt : c.args.at < cell_count c.args.sizes = omega arith in
     let e : c.args.at / c.args.sizes.moving / c.components-2.result ≡ hour_at c.args.sizes c.args.at = ap (λ (w : ℕ). c.args.at / c.args.sizes.moving / w) c.components-2.ensures in
     omega (arith, (cell_at c.args.sizes c.args.at lt).hour)

@@ -10,8 +10,8 @@ loop-at-preserved g c = full_more _ _ c.args.course.now c.loop-at.at c.index-cou
 
 pub returns-then-void : goal.returns-then-void
 returns-then-void g c =
-    λ few whole. some_void g.S.Scale.size g.S.Scale.has g.met.S.Scale.inside c.args.sizes c.args.course.now whole c.loop-at.at c.index-course-at.result c.cell-at.result
-    c.loop-at-test.true c.index-course-at.is c.if-void.ensures c.loop-at.invariant (c.cell-at.ensures few)
+    λ few whole. some_void g.S.Scale.size g.S.Scale.has g.met.S.Scale.inside c.args.sizes c.args.course.now whole c.loop-at.at c.index-course-at.result c.cell_at.result
+    c.loop-at-test.true c.index-course-at.is c.if-void.ensures c.loop-at.invariant (c.cell_at.ensures few)
 
 pub returns : goal.returns
 returns g c =

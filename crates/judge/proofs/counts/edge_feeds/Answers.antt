@@ -8,8 +8,8 @@ returns-then-e-house g c = search (rules, feeds_none)
 pub returns-then-edge-node : goal.returns-then-edge-node
 returns-then-edge-node g c = search (rules, feeds_other)
 
-pub returns-then-not-held-on : goal.returns-then-not-held-on
-returns-then-not-held-on g c = search (rules, feeds_unfit)
+pub returns-then-not-held_on : goal.returns-then-not-held_on
+returns-then-not-held_on g c = search (rules, feeds_unfit)
 
 pub returns : goal.returns
 returns g c = search (rules, feeds_fit)
