@@ -9,14 +9,14 @@ loop-call-init g c = rw c.new-answers.ensures.items (far_none _ _ _ _ _ c.args.f
 
 pub loop-call-preserved : goal.loop-call-preserved
 loop-call-preserved g c =
-    rw c.in-ok-push.ensures.items
+    rw c.in_ok-push.ensures.items
     (far_step g.S.Scale.size g.S.Scale.has c.args.house.now (g.B.Book.formulas c.args.book.now) (g.B.Book.says c.args.book.now)
     c.args.calls.now c.loop-call.call-index _ _ _ _ _ _ _ _ _ c.call-item.result _ c.loop-call-test.true c.call-item.is c.loop-call.invariant
     c.step-next.ensures)
 
-pub returns-in-err-push : goal.returns-in-err-push
-returns-in-err-push g c =
-    let p = err_from_is_err_and c.from-residual.result c.from-residual.ensures.1 in
+pub returns-in_err-push : goal.returns-in_err-push
+returns-in_err-push g c =
+    let p = err_from_is_err_and c.from_residual.result c.from_residual.ensures.1 in
     rw p.1 (
       c.loop-call.call-index + 1,
       vec_items c.loop-call.answers ++ c.step-next.result.1 ∷ [],
