@@ -6,10 +6,10 @@ use Rattle.report.proofs.conclude.Goals as goal
 
 pub returns : goal.returns
 returns g c =
-    IfOk-weaker c.settled-text.result _ _
-    (λ s. concluded g.S.Scale.size g.S.Scale.has g.S.Recorded.form c.args.content c.args.tables.now _ c.deref-mut.result.now _ c.in-Ok.book.book.steps.now c.in-Ok.book.least
-    c.house-of-house.ensures
-    (c.deref-mut.ensures.len ∙ (c.in-ok-course.course.ok.0 ∙ (ap length c.in-ok-course.ensures ∙ (length-replicate _ _ ∙ (c.min.ensures ∙ ap (λ k. min k 8192) c.cells.ensures)))))
+    IfOk-weaker c.settled_text.result _ _
+    (λ s. concluded g.S.Scale.size g.S.Scale.has g.S.Recorded.form c.args.content c.args.tables.now _ c.deref_mut.result.now _ c.in-Ok.book.book.steps.now c.in-Ok.book.least
+    c.house_of-house.ensures
+    (c.deref_mut.ensures.len ∙ (c.in_ok-course.course.ok.0 ∙ (ap length c.in_ok-course.ensures ∙ (length-replicate _ _ ∙ (c.min.ensures ∙ ap (λ k. min k 8192) c.cells.ensures)))))
     (ap (λ b. b.steps.now) c.in-Ok.ensures.1 ∙ (ap (λ l. l.now) c.over-stairs.ensures ∙ c.front.ensures))
     c.in-Ok.ensures.0)
-    c.settled-text.ensures
+    c.settled_text.ensures

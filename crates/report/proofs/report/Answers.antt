@@ -8,14 +8,14 @@ returns g c =
     (λ s text. (
       _,
       record {
-        edges = c.deref-mut.ensures.len ∙ c.in-ok-space.ensures.edges;
-        fixed = c.deref-mut-2.ensures.len ∙ c.in-ok-space.ensures.fixed;
-        tests = c.deref-mut-3.ensures.len ∙ c.in-ok-space.ensures.tests;
-        conditions = c.deref-mut-4.ensures.len ∙ c.in-ok-space.ensures.conditions;
-        constraints = c.deref-mut-5.ensures.len ∙ c.in-ok-space.ensures.constraints;
-        rules = c.deref-mut-6.ensures.len ∙ c.in-ok-space.ensures.rules;
-        steps = c.deref-mut-7.ensures.len ∙ c.in-ok-space.ensures.steps;
-        facts = c.deref-mut-8.ensures.len ∙ c.in-ok-space.ensures.facts;
+        edges = c.deref_mut.ensures.len ∙ c.in_ok-space.ensures.edges;
+        fixed = c.deref_mut-2.ensures.len ∙ c.in_ok-space.ensures.fixed;
+        tests = c.deref_mut-3.ensures.len ∙ c.in_ok-space.ensures.tests;
+        conditions = c.deref_mut-4.ensures.len ∙ c.in_ok-space.ensures.conditions;
+        constraints = c.deref_mut-5.ensures.len ∙ c.in_ok-space.ensures.constraints;
+        rules = c.deref_mut-6.ensures.len ∙ c.in_ok-space.ensures.rules;
+        steps = c.deref_mut-7.ensures.len ∙ c.in_ok-space.ensures.steps;
+        facts = c.deref_mut-8.ensures.len ∙ c.in_ok-space.ensures.facts;
       },
       text,
     ))

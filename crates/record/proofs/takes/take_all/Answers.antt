@@ -7,7 +7,7 @@ pub loop-i-init : goal.loop-i-init
 loop-i-init g c =
     let so =
     so_none g.S.Scale.size g.S.Scale.has g.S.Recorded.form c.args.lines.now c.args.sizes c.args.tables.now _ c.open-draft.result.count
-    (ap (λ f. record { edges = 0; fixed = f; tests = 0; conditions = 0; constraints = 0; rules = 0; steps = 0 }) c.fixed-places.ensures)
+    (ap (λ f. record { edges = 0; fixed = f; tests = 0; conditions = 0; constraints = 0; rules = 0; steps = 0 }) c.fixed_places.ensures)
     c.open-draft.ensures in
     ([], refl, so.taken, so.counts, so.filings, (refl, refl, refl, refl, refl, refl, refl, refl))
 
