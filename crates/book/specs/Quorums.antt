@@ -1,5 +1,5 @@
 -- Books under a quorum.
-use Rattle.std.specs.Prelude.{◌≡◌, ℕ, ◌<◌, ◌≤◌, Bool, cond, Ok, Err, Result, nat_lt}
+use Rattle.std.specs.Prelude.{◌≡◌, ℕ, ◌<◌, ◌≤◌, cond, Ok, Err, Result, nat_lt}
 use Rattle.points.specs.Points.{Points}
 use Rattle.book.specs.declared.quorums.Quorum.{Quorum}
 use Rattle.book.specs.declared.quorums.QuorumTooLarge.{QuorumTooLarge}

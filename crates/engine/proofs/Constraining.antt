@@ -1,17 +1,17 @@
 -- Constraints at an hour. Assumes nothing.
-use Rattle.std.proofs.Common.{◌≡◌, ℕ, ◌+◌, ◌<◌, ◌≤◌, Bool, true, false, not, ◌&&◌, ◌||◌, eqb, List, length, get_or, take, sym, refl, ap, ◌∙◌, subst, ⊎_elim, arith}
-use Rattle.std.proofs.lemmas.Bool.{and_parts, and_from, and_cases, not-true, not-false, true≢false, both_ways, eqb-true, eq-eqb, ne_eqb, cases_Bool, cases_lt, cases_eq}
+use Rattle.std.proofs.Common.{◌≡◌, ℕ, ◌+◌, ◌<◌, ◌≤◌, Bool, true, false, not, ◌&&◌, ◌||◌, eqb, length, get_or, take, sym, refl, ap, ◌∙◌, subst, ⊎_elim, arith}
+use Rattle.std.proofs.lemmas.Bool.{and_parts, and_from, and_cases, not-true, not-false, true≢false, both_ways, eqb-true, eq-eqb, ne_eqb, cases_lt, cases_eq}
 use Rattle.std.proofs.lemmas.List.{take_all}
 use Rattle.points.specs.Points.{Points, Among, Same, implies, within, count_below}
-use Rattle.points.specs.Tables.{Every, at_place, all_pass}
+use Rattle.points.specs.Tables.{at_place, all_pass}
 use Rattle.points.proofs.Decided.{implies_use, implies_from, each_use, each_from, within_decides}
 use Rattle.points.proofs.Counted.{count_mono, count_le}
 use Rattle.points.proofs.Summed.{count_same}
-use Rattle.points.proofs.Tabled.{all_use, all_ext, at_mono, at_read, at_from, at-get_or}
+use Rattle.points.proofs.Tabled.{all_use, all_ext, at_mono, at_read, at_from}
 use Rattle.house.specs.declared.tables.House.{House}
 use Rattle.house.specs.declared.tables.Constraint.{Constraint}
 use Rattle.house.specs.declared.tables.Test.{Test}
-use Rattle.fitting.specs.Course.{Course, Within, OfHouse}
+use Rattle.fitting.specs.Course.{Course, OfHouse}
 use Rattle.fitting.specs.Tests.{body_met_lem}
 use Rattle.fitting.specs.Step.{constraint_grants}
 use Rattle.fitting.proofs.Narrow.{body_mono, constraint_mono}

@@ -1,25 +1,23 @@
 -- One hour after the other: nothing that a fitting course has is lost, and each hour grants what it keeps. Assumes nothing.
-use Rattle.std.proofs.Common.{◌≡◌, ℕ, ◌+◌, ◌-◌, ◌<◌, ◌≤◌, true, List, length, get_or, sym, ◌∙◌, subst, ⊎_elim, le_of_suc-le-suc, eq-or-lt_of_le, arith}
+use Rattle.std.proofs.Common.{◌≡◌, ℕ, ◌+◌, ◌-◌, ◌<◌, ◌≤◌, true, List, sym, ◌∙◌, subst, ⊎_elim, arith}
 use Rattle.std.proofs.lemmas.Bool.{and_parts, and_from, cases_lt}
 use Rattle.points.specs.Points.{Points, Among, Same}
-use Rattle.points.specs.Tables.{Every, all_pass}
+use Rattle.points.specs.Tables.{Every}
 use Rattle.points.proofs.Tabled.{all_from}
 use Rattle.house.specs.declared.tables.House.{House}
 use Rattle.house.specs.declared.tables.Fact.{Fact}
 use Rattle.house.specs.Cells.{components}
 use Rattle.examining.specs.Examine.{Accepted}
-use Rattle.examining.specs.Lawful.{Lawful}
 use Rattle.examining.proofs.Laws.{accepted_laws}
 use Rattle.fitting.specs.Course.{Course, Cell, OfHouse}
 use Rattle.fitting.specs.Edges.{edge_at}
 use Rattle.fitting.specs.Fits.{Fits}
-use Rattle.fitting.specs.Step.{fact_grants, constraint_grants, rule_grants, carry_grants, granted}
+use Rattle.fitting.specs.Step.{fact_grants, rule_grants, granted}
 use Rattle.fitting.specs.Laws.{LoosestFitting}
 use Rattle.fitting.proofs.Narrow.{Narrows}
 use Rattle.fitting.proofs.Frame.{rules_same_before, carry_same}
 use Rattle.fitting.proofs.Rest.{in_cell, cell_numbers, parts, from_parts, fits_granted}
 use Rattle.fitting.proofs.Hours.{fact_keeps, rule_keeps, carry_keeps, granted_at_same, hours_fit}
-use Rattle.judge.specs.Judged.{Countable}
 use Rattle.writes.specs.Written.{Narrowed, at_hour, facts_grant}
 use Rattle.writes.proofs.Narrowing.{narrowed_within, narrowed_grants, narrowed_keeps, narrowed_other}
 use Rattle.engine.specs.Ready.{Ready}

@@ -1,9 +1,8 @@
 -- Rules at an hour. Assumes nothing.
-use Rattle.std.proofs.Common.{◌≡◌, ℕ, ◌+◌, ◌<◌, ◌≤◌, Bool, true, false, cond, ◌&&◌, eqb, ltb, leb, List, length, get_or, take, sym, refl, ap, ◌∙◌, ⊎_elim, arith}
+use Rattle.std.proofs.Common.{◌≡◌, ℕ, ◌+◌, ◌<◌, ◌≤◌, Bool, true, false, ◌&&◌, eqb, ltb, leb, List, length, get_or, take, sym, refl, ap, ◌∙◌, ⊎_elim, arith}
 use Rattle.std.proofs.lemmas.Bool.{and_from, lt-ltb, le-ltb, le-leb, eq-eqb, ne_eqb, cases_eq, cond-true}
 use Rattle.points.specs.Points.{Points, Same, implies}
-use Rattle.points.specs.Tables.{Every, all_pass}
-use Rattle.points.proofs.Tabled.{all_ext}
+use Rattle.points.specs.Tables.{all_pass}
 use Rattle.book.specs.Meaning.{asked, answered}
 use Rattle.house.specs.declared.tables.House.{House}
 use Rattle.house.specs.declared.tables.Rule.{Rule}

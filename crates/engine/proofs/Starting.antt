@@ -1,14 +1,13 @@
 -- How an hour begins, seen as a course. Assumes nothing.
 use Rattle.std.proofs.Common.{◌≡◌, ℕ, zero, suc, ◌+◌, ◌-◌, ◌<◌, ◌≤◌, Bool, true, false, cond, ◌&&◌, ◌||◌, eqb, ltb, leb, List, [], ◌∷◌, length, get_or, take, sym, refl, ap, ◌∙◌, ⊎_elim, arith}
-use Rattle.std.proofs.lemmas.Bool.{and_parts, and_from, and_left, eqb-true, eqb-false, eq-eqb, ne_eqb, ltb-true, ltb-false, lt-ltb, le-ltb, le-leb, lt-leb, cases_Bool, cases_lt, cases_eq, both_ways, cond-true, cond-false}
-use Rattle.points.specs.Points.{Points, Same, Loose}
+use Rattle.std.proofs.lemmas.Bool.{and_parts, and_from, and_left, eq-eqb, ne_eqb, lt-ltb, le-ltb, le-leb, lt-leb, cases_Bool, cases_lt, cases_eq}
+use Rattle.points.specs.Points.{Points, Same}
 use Rattle.points.specs.Tables.{Every, at_place, one_passes}
-use Rattle.points.proofs.Tabled.{at_read}
 use Rattle.house.specs.declared.tables.Sizes.{Sizes}
 use Rattle.house.specs.declared.tables.House.{House}
 use Rattle.house.specs.declared.tables.Fact.{Fact}
 use Rattle.house.specs.declared.tables.Rule.{Rule}
-use Rattle.house.specs.Cells.{components, inside, place, cell_count, covers}
+use Rattle.house.specs.Cells.{inside, place}
 use Rattle.house.proofs.Places.{inside_use, inside_from, place_lt}
 use Rattle.fitting.specs.Course.{Course, OfHouse, loosest, course_of}
 use Rattle.fitting.specs.Conditions.{holds}

@@ -1,8 +1,8 @@
 -- Narrowing at one hour, component by component. Assumes nothing.
-use Rattle.std.proofs.Common.{◌≡◌, ℕ, ◌+◌, ◌<◌, ◌≤◌, Bool, true, false, not, ◌&&◌, ◌||◌, eqb, ltb, sym, refl, ap, ◌∙◌, ⊎_elim, arith}
+use Rattle.std.proofs.Common.{◌≡◌, ℕ, ◌+◌, ◌≤◌, Bool, true, false, not, ◌&&◌, ◌||◌, eqb, ltb, sym, refl, ◌∙◌, ⊎_elim, arith}
 use Rattle.std.proofs.lemmas.Bool.{and_parts, eqb-true, eq-eqb, ne_eqb, ltb-true, ltb-false, lt-ltb, cases_Bool, cases_eq}
 use Rattle.points.specs.Points.{Points, Same, implies}
-use Rattle.points.proofs.Decided.{implies_use, implies_from}
+use Rattle.points.proofs.Decided.{implies_from}
 use Rattle.fitting.specs.Course.{Course}
 use Rattle.writes.specs.Written.{Narrowed, on_cell, at_hour}
 use Rattle.writes.proofs.Narrowing.{narrowed_none, narrowed_as, narrowed_then}

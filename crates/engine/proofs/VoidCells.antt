@@ -1,18 +1,17 @@
 -- Void cells, by their places. Assumes nothing.
-use Rattle.std.proofs.Common.{◌≡◌, ℕ, zero, suc, ◌+◌, ◌/◌, ◌%◌, ◌<◌, ◌≤◌, Bool, true, false, not, ◌&&◌, List, [], ◌∷◌, length, get_or, Some, None, Option, sym, refl, ap, ◌∙◌, subst, ⊎_elim, arith, below_more}
+use Rattle.std.proofs.Common.{◌≡◌, ℕ, zero, suc, ◌+◌, ◌<◌, true, false, not, List, [], ◌∷◌, length, get_or, Some, None, Option, sym, refl, ◌∙◌, subst, ⊎_elim, arith, below_more}
 use Rattle.std.proofs.lemmas.List.{get_or_read}
-use Rattle.std.proofs.lemmas.Bool.{and_parts, and_from, and_cases, not-false, true≢false, cases_Bool, both_ways}
+use Rattle.std.proofs.lemmas.Bool.{and_cases, not-false, true≢false, cases_Bool}
 use Rattle.points.specs.Points.{Points, void, each_below}
-use Rattle.points.specs.Tables.{at_place}
 use Rattle.points.proofs.Decided.{void_decides}
-use Rattle.points.proofs.Tabled.{at-get_or, at_read}
+use Rattle.points.proofs.Tabled.{at_read}
 use Rattle.house.specs.declared.tables.Sizes.{Sizes}
-use Rattle.house.specs.Cells.{components, inside, place, cell_count}
-use Rattle.house.proofs.Places.{IsCell, inside_use, inside_from, place_lt, cell_at, place_at, hour_at, component_at, label_at}
+use Rattle.house.specs.Cells.{inside, place, cell_count}
+use Rattle.house.proofs.Places.{inside_use, inside_from, place_lt, cell_at, place_at, hour_at, component_at, label_at}
 use Rattle.fitting.specs.Course.{course_of}
 use Rattle.writes.specs.Written.{Whole}
 use Rattle.engine.specs.declared.voids.Cell.{Cell}
-use Rattle.engine.specs.Voids.{Numbered, CellAt, FirstVoid}
+use Rattle.engine.specs.Voids.{CellAt, FirstVoid}
 
 -- what is not void has a point
 pub has_point : (n : ℕ) (a : Points) → void n a ≡ false → (p : ℕ) × (a p ≡ true)

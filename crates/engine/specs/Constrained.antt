@@ -1,5 +1,5 @@
 -- What constraints make of an hour.
-use Rattle.std.specs.Prelude.{◌≡◌, ℕ, ◌<◌, Bool, true, false, not, ◌&&◌, List, length, ◌≢◌}
+use Rattle.std.specs.Prelude.{◌≡◌, ℕ, Bool, true, false, not, ◌&&◌, length, ◌≢◌}
 use Rattle.points.specs.Points.{Points, Among, Same, within, count_below}
 use Rattle.points.specs.Tables.{at_place, all_pass}
 use Rattle.house.specs.declared.tables.House.{House}

@@ -1,6 +1,6 @@
 -- Hours settled one after the other.
-use Rattle.std.specs.Prelude.{ℕ, ◌<◌, ◌≤◌, List}
-use Rattle.points.specs.Points.{Points, Among, Same}
+use Rattle.std.specs.Prelude.{ℕ, ◌<◌, List}
+use Rattle.points.specs.Points.{Points, Among}
 use Rattle.house.specs.declared.tables.House.{House}
 use Rattle.house.specs.declared.tables.Fact.{Fact}
 use Rattle.examining.specs.Examine.{Accepted}

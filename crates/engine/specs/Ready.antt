@@ -1,5 +1,5 @@
 -- A house whose hours can be settled. Every house that is accepted for a book is one.
-use Rattle.std.specs.Prelude.{ℕ, ◌<◌, ◌≤◌, List}
+use Rattle.std.specs.Prelude.{ℕ, ◌<◌, ◌≤◌}
 use Rattle.points.specs.Points.{Points}
 use Rattle.points.specs.Tables.{Every}
 use Rattle.house.specs.declared.tables.House.{House}

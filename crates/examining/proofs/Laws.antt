@@ -1,11 +1,10 @@
 -- The laws of accepted houses, from what the checks ask. Assumes nothing.
-use Rattle.std.proofs.Common.{◌≡◌, ℕ, zero, suc, ◌+◌, ◌*◌, ◌<◌, ◌≤◌, Bool, true, false, not, ◌&&◌, ◌||◌, eqb, ltb, leb, ◌⊎◌, List, [], ◌∷◌, length, get_or, Ok, Err, sym, refl, ap, ◌∙◌, subst, inl, inr, ⊎_elim, arith}
-use Rattle.std.proofs.lemmas.Bool.{and_parts, or_cases, not-true, both_ways, leb-true, ltb-true, eqb-true, le-leb, eq-eqb, and_from, cases_order, cases_lt, not_from_true}
-use Rattle.points.specs.Points.{Points, void, implies, each_below}
-use Rattle.points.specs.Tables.{Every, at_place}
+use Rattle.std.proofs.Common.{◌≡◌, ℕ, ◌+◌, ◌<◌, ◌≤◌, Bool, true, false, eqb, ltb, leb, ◌⊎◌, List, [], ◌∷◌, length, get_or, sym, ◌∙◌, inl, inr, ⊎_elim, arith}
+use Rattle.std.proofs.lemmas.Bool.{and_parts, or_cases, not-true, both_ways, leb-true, ltb-true, eqb-true, le-leb, eq-eqb, and_from, cases_order, cases_lt}
+use Rattle.points.specs.Points.{Points, implies}
+use Rattle.points.specs.Tables.{at_place}
 use Rattle.points.proofs.Decided.{implies_use, each_use}
 use Rattle.points.proofs.Tabled.{at_read, at_else}
-use Rattle.examining.specs.declared.defects.Defect.{Defect}
 use Rattle.house.specs.declared.tables.Body.{Body}
 use Rattle.house.specs.declared.tables.Condition.{Condition}
 use Rattle.house.specs.declared.tables.Constraint.{Constraint}
@@ -13,12 +12,11 @@ use Rattle.house.specs.declared.tables.Edge.{Edge}
 use Rattle.house.specs.declared.tables.House.{House}
 use Rattle.house.specs.declared.tables.Rule.{Rule}
 use Rattle.house.specs.declared.tables.Sizes.{Sizes}
-use Rattle.house.specs.declared.tables.Test.{Test}
 use Rattle.house.specs.Cells.{moves}
-use Rattle.examining.specs.Checks.{between, size_passes, table_passes, joins_nodes_lem, same_pair, new_pair, edge_passes, fixed_passes, names_label_lem, test_passes, tests_fixed_lem, tests_moving_lem, condition_kept, condition_passes, body_ends_lem, constraint_kept, constraint_passes, names_condition_lem, rule_kept, rule_passes}
+use Rattle.examining.specs.Checks.{between, size_passes, joins_nodes_lem, same_pair, new_pair, edge_passes, fixed_passes, names_label_lem, test_passes, tests_fixed_lem, tests_moving_lem, condition_kept, condition_passes, body_ends_lem, constraint_kept, constraint_passes, names_condition_lem, rule_kept, rule_passes}
 use Rattle.examining.specs.Defects.{number_of, place_of}
-use Rattle.examining.specs.Examine.{Check, Clear, FailsAt, AllClear, FirstFails, checks, Accepted, Examined}
-use Rattle.examining.specs.Lawful.{LawfulSizes, FixedTest, MovingTest, BodyEnds, ConditionNamed, LawfulCondition, LawfulConstraint, LawfulRule, Lawful, AcceptedLaws}
+use Rattle.examining.specs.Examine.{Check, FailsAt, AllClear, FirstFails, checks, Accepted}
+use Rattle.examining.specs.Lawful.{LawfulSizes, FixedTest, MovingTest, LawfulCondition, LawfulConstraint, LawfulRule, Lawful, AcceptedLaws}
 
 between_use : (low n high : ℕ) → between low n high ≡ true → (low ≤ n) × (n ≤ high)
 between_use low n high e = let p = and_parts (leb low n) (leb n high) e in (leb-true _ _ p.0, leb-true _ _ p.1)

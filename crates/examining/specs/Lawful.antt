@@ -1,5 +1,5 @@
 -- What holds of an accepted house, as plain facts of its sizes and of the records read in its tables.
-use Rattle.std.specs.Prelude.{◌≡◌, ℕ, ◌+◌, ◌*◌, ◌<◌, ◌≤◌, Bool, true, false, ◌⊎◌, length, Ok, Err, Result, ◌≢◌, slice_index_or}
+use Rattle.std.specs.Prelude.{◌≡◌, ℕ, ◌+◌, ◌*◌, ◌<◌, ◌≤◌, true, false, ◌⊎◌, length, Err, ◌≢◌, slice_index_or}
 use Rattle.points.specs.Points.{Points, void}
 use Rattle.points.specs.Tables.{Every}
 use Rattle.examining.specs.declared.defects.Defect.{Defect}

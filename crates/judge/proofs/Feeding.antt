@@ -1,11 +1,11 @@
 -- Neighbours counted by edges, and that these are the nodes counted. Assumes nothing.
-use Rattle.std.proofs.Common.{◌≡◌, ℕ, zero, suc, ◌+◌, ◌-◌, ◌<◌, ◌≤◌, min, Bool, true, false, cond, ◌&&◌, ◌||◌, eqb, List, [], ◌∷◌, length, get_or, sym, refl, ap, ◌∙◌, ⊎_elim, add-one, arith}
+use Rattle.std.proofs.Common.{◌≡◌, ℕ, zero, suc, ◌+◌, ◌-◌, ◌<◌, ◌≤◌, min, Bool, true, false, ◌&&◌, ◌||◌, eqb, List, [], ◌∷◌, length, get_or, sym, refl, ap, ◌∙◌, ⊎_elim, add-one, arith}
 use Rattle.std.proofs.lemmas.List.{get_or_past}
-use Rattle.std.proofs.lemmas.Bool.{cases_lt, cases_eq, eq-eqb, ne_eqb, or_left}
+use Rattle.std.proofs.lemmas.Bool.{cases_lt, eq-eqb, ne_eqb}
 use Rattle.points.specs.Points.{Points, count_below}
 use Rattle.points.specs.Tables.{at_place}
 use Rattle.points.proofs.Counted.{count_ext}
-use Rattle.points.proofs.Tabled.{at-get_or, at_read, at_else}
+use Rattle.points.proofs.Tabled.{at-get_or, at_else}
 use Rattle.house.specs.declared.tables.House.{House}
 use Rattle.house.specs.declared.tables.Edge.{Edge}
 use Rattle.house.specs.declared.tables.Rule.{Rule}
@@ -13,14 +13,13 @@ use Rattle.house.specs.declared.tables.Body.{Body}
 use Rattle.house.specs.Cells.{components}
 use Rattle.fitting.specs.Course.{Course}
 use Rattle.fitting.specs.Tests.{body_met_lem}
-use Rattle.fitting.specs.Conditions.{said, holds}
-use Rattle.fitting.specs.Edges.{edge_at, edges_count, Graph}
+use Rattle.fitting.specs.Conditions.{holds}
+use Rattle.fitting.specs.Edges.{edge_at, edges_count}
 use Rattle.fitting.specs.Neighbours.{eligibles, qualified}
 use Rattle.fitting.proofs.ByEdges.{eligibles_by_edges, qualified_by_edges}
 use Rattle.fitting.proofs.Narrow.{eligibles_le, qualified_le}
 use Rattle.judge.specs.declared.verdicts.Verdicts.{Verdicts}
-use Rattle.judge.specs.declared.counts.Count.{Count}
-use Rattle.judge.specs.Judged.{held_by, held_on_lem, feeds, Judges, AllJudged, Countable, Counted}
+use Rattle.judge.specs.Judged.{held_by, held_on_lem, feeds, AllJudged, Countable}
 use Rattle.judge.proofs.Verdict.{said_later}
 
 -- the body is met on the node that edge e leaves

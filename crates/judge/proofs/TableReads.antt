@@ -1,19 +1,18 @@
 -- What reads of tables and cells come to. Assumes nothing.
-use Rattle.std.proofs.Common.{◌≡◌, ℕ, ◌+◌, ◌*◌, ◌<◌, ◌≤◌, Bool, true, false, cond, not, ◌&&◌, ltb, List, length, get_or, Some, None, Option, sym, refl, ap, ◌∙◌}
+use Rattle.std.proofs.Common.{◌≡◌, ℕ, ◌<◌, ◌≤◌, Bool, true, false, not, ◌&&◌, List, length, get_or, sym, refl, ◌∙◌}
 use Rattle.std.proofs.lemmas.Bool.{true≢false, lt-ltb, le-ltb, cond-true, cond-false}
-use Rattle.points.specs.Points.{Points, Same, implies, each_below, within, void}
-use Rattle.points.specs.Tables.{at_place}
+use Rattle.points.specs.Points.{Points, Same, within, void}
 use Rattle.points.proofs.Decided.{each_from, implies_from, same_test}
 use Rattle.points.proofs.Tabled.{at_read, at-get_or, at_else}
 use Rattle.house.specs.declared.tables.House.{House}
 use Rattle.house.specs.declared.tables.Test.{Test}
 use Rattle.house.specs.declared.tables.Sizes.{Sizes}
-use Rattle.house.specs.Cells.{inside, place, cell_count, Placed}
+use Rattle.house.specs.Cells.{inside, place}
 use Rattle.fitting.specs.Course.{Course, course_of}
 use Rattle.fitting.specs.Tests.{meets, fixed_at, seen, test_met_lem}
 use Rattle.fitting.specs.Conditions.{fixed_met_lem}
 use Rattle.fitting.proofs.Narrow.{meets_mono}
-use Rattle.judge.specs.Judged.{points_of, bound_at}
+use Rattle.judge.specs.Judged.{bound_at}
 
 none_within : (n : ℕ) (bound : Points) → within n (λ p. false) bound ≡ true
 unfolding within

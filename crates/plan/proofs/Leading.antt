@@ -1,5 +1,5 @@
 -- Joint steps lead where settle says. Assumes nothing.
-use Rattle.std.proofs.Common.{◌≡◌, ℕ, ◌<◌, ◌≤◌, true, List, take, ⊎_elim}
+use Rattle.std.proofs.Common.{ℕ, ◌≤◌, List, take, ⊎_elim}
 use Rattle.std.proofs.lemmas.Bool.{cases_Bool}
 use Rattle.points.specs.Points.{Points}
 use Rattle.house.specs.declared.tables.House.{House}
@@ -9,13 +9,10 @@ use Rattle.examining.proofs.Laws.{sizes_lawful}
 use Rattle.fitting.specs.Course.{course_of}
 use Rattle.fitting.specs.Laws.{Laws}
 use Rattle.fitting.specs.Step.{steps}
-use Rattle.plan.specs.declared.Draft.{Draft}
-use Rattle.plan.specs.declared.outcomes.Outcome.{Outcome}
 use Rattle.plan.specs.declared.outcomes.Outcome.TheVariants.{Settled as Came, Contradiction as Failed, Refused as Denied}
 use Rattle.plan.specs.Orders.{settle_checks}
 use Rattle.plan.specs.Courses.{Settles, Contradicts}
-use Rattle.plan.specs.Calls.{SettleDoes}
-use Rattle.plan.specs.Steps.{Reached, Emptied, Led, StepsLead}
+use Rattle.plan.specs.Steps.{Reached, Emptied, StepsLead}
 
 module _ {S : Type 0} (n : ℕ) (has : S → Points) (h : House S) (says : ℕ → ℕ → ℕ → Points) (filed : List (Fact S)) (l : Laws n has h says filed) where
   settled_reached : (cells : List S) → Settles n has h says filed cells → Reached n has h says filed cells

@@ -1,5 +1,5 @@
 -- What the tests over points say. Assumes nothing.
-use Rattle.std.proofs.Common.{◌≡◌, ℕ, zero, suc, ◌+◌, ◌<◌, ◌≤◌, Bool, true, false, cond, not, ◌&&◌, ◌||◌, ◌⊎◌, sym, refl, ap, subst, inl, inr, ⊎_elim, le_of_suc-le-suc, eq-or-lt_of_le, add-one, arith}
+use Rattle.std.proofs.Common.{◌≡◌, ℕ, zero, suc, ◌+◌, ◌<◌, Bool, true, false, not, sym, refl, subst, ⊎_elim, le_of_suc-le-suc, eq-or-lt_of_le, add-one, arith}
 use Rattle.std.proofs.lemmas.Bool.{and_parts, and_from, true≢false, both_ways, not-true, cases_Bool}
 use Rattle.points.specs.Points.{Iff, Points, Among, implies, each_below, within, void}
 

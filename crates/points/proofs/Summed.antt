@@ -1,5 +1,5 @@
 -- Sums over the numbers below a limit: where a smaller one is no less, nothing is smaller. Assumes nothing.
-use Rattle.std.proofs.Common.{◌≡◌, ℕ, zero, suc, ◌+◌, ◌<◌, ◌≤◌, Bool, true, false, cond, ◌⊎◌, sym, refl, subst, inl, inr, ⊎_elim, le_of_suc-le-suc, eq-or-lt_of_le, arith}
+use Rattle.std.proofs.Common.{◌≡◌, ℕ, zero, suc, ◌+◌, ◌<◌, ◌≤◌, Bool, true, false, cond, sym, refl, subst, ⊎_elim, le_of_suc-le-suc, eq-or-lt_of_le, arith}
 use Rattle.std.proofs.lemmas.Bool.{true≢false}
 use Rattle.points.specs.Points.{count_below}
 use Rattle.points.proofs.Counted.{count_mono}

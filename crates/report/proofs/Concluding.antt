@@ -1,9 +1,8 @@
 -- How the text of a file is put together. Assumes nothing.
-use Rattle.std.proofs.Common.{◌≡◌, ℕ, List, length, take, refl, ap, ◌∙◌}
+use Rattle.std.proofs.Common.{◌≡◌, ℕ, List, length}
 use Rattle.points.specs.Points.{Points}
 use Rattle.book.specs.declared.shares.Stair.{Stair}
-use Rattle.book.specs.Steps.{formulas_of, share_reached, said}
-use Rattle.book.specs.Quorums.{quorate}
+use Rattle.book.specs.Steps.{formulas_of}
 use Rattle.house.specs.declared.tables.House.{House}
 use Rattle.record_entry.specs.declared.Tables.{Tables}
 use Rattle.record.specs.declared.reading.Content.{Content}

@@ -1,8 +1,6 @@
 -- How a row of the table is shown. Assumes nothing.
-use Rattle.std.proofs.Common.{◌≡◌, ℕ, ◌<◌, Bool, true, false, ◌&&◌, ltb, sym, refl, ◌∙◌, arith}
+use Rattle.std.proofs.Common.{◌≡◌, ℕ, Bool, true, false, ◌&&◌, ltb, sym, ◌∙◌}
 use lib.Bits.{bit_and}
-use Rattle.std.proofs.lemmas.Bool.Decides.{nat_tests}
-use Rattle.points.specs.Points.{Same}
 use Rattle.scale.specs.Ranges as ranges
 use Rattle.scale.specs.Sets as sets
 use Rattle.scale.specs.RangeFacts as range-facts

@@ -1,7 +1,7 @@
 -- The laws of bounds, from the one law that each scale owes. Assumes nothing.
-use Rattle.std.proofs.Common.{◌≡◌, ℕ, ◌<◌, Bool, true, false, ◌&&◌, sym, ◌∙◌}
+use Rattle.std.proofs.Common.{◌≡◌, ℕ, ◌<◌, true, sym, ◌∙◌}
 use Rattle.std.proofs.lemmas.Bool.{and_parts, and_from, lt-ltb}
-use Rattle.points.specs.Points.{Iff, Points, Among, Meet, Loose, within, void}
+use Rattle.points.specs.Points.{Points, Among, within, void}
 use Rattle.points.proofs.Decided.{within_decides, void_decides}
 use Rattle.scale.specs.Laws.{Laws}
 

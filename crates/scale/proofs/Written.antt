@@ -1,5 +1,5 @@
 -- The laws of forms, from the one law that each recorded scale owes. Assumes nothing.
-use Rattle.std.proofs.Common.{◌≡◌, ℕ, List, Ok, Err, Result, sym, refl}
+use Rattle.std.proofs.Common.{◌≡◌, ℕ, List, Ok, Err, Result, refl}
 use Rattle.points.specs.Points.{Iff, Points, Same}
 use Rattle.scale.specs.declared.forms.NotABound.{NotABound}
 use Rattle.scale.specs.Forms.{Reads, FormLaws}

@@ -1,5 +1,5 @@
 -- The laws of bounds that all code over a scale leans on.
-use Rattle.std.specs.Prelude.{◌≡◌, ℕ, Bool, true, ◌≢◌}
+use Rattle.std.specs.Prelude.{◌≡◌, ℕ, true, ◌≢◌}
 use Rattle.points.specs.Points.{Iff, Points, Among, Meet, Loose, within, void}
 
 -- a scale of `size` points, whose bounds have the points that `has` says

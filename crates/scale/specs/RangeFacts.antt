@@ -1,9 +1,9 @@
 -- Ranges of points: when one is void, when one is within another, and that its form says its points. Assumes nothing.
-use Rattle.std.specs.Prelude.{◌≡◌, ℕ, ◌+◌, ◌*◌, ◌/◌, ◌%◌, ◌<◌, ◌≤◌, min, Bool, true, false, cond, ◌&&◌, ◌||◌, ◌⊎◌, List, nat_le, nat_lt, refl}
+use Rattle.std.specs.Prelude.{◌≡◌, ℕ, ◌<◌, ◌≤◌, min, Bool, true, false, ◌⊎◌, nat_le, nat_lt, refl}
 use Rattle.std.proofs.Common.{⊎_elim, inl, inr, sym, ap, ◌∙◌, arith}
-use Rattle.std.proofs.lemmas.Bool.{true≢false, and_parts, and_from, leb-true, leb-false, ltb-true, le-leb, lt-leb, lt-ltb, cases_Bool, cases_lt, cond-true, cond-false}
+use Rattle.std.proofs.lemmas.Bool.{true≢false, and_parts, and_from, leb-true, leb-false, ltb-true, le-leb, lt-ltb, cases_Bool, cases_lt, cond-true, cond-false}
 use Rattle.std.proofs.lemmas.Bool.Decides.{same_from_decides, nat_tests}
-use Rattle.points.specs.Points.{Points, Iff, Among, Same, within, void}
+use Rattle.points.specs.Points.{Iff, Same, within, void}
 use Rattle.points.proofs.Decided.{within_decides, void_decides}
 use Rattle.scale.specs.declared.ranges.Thousandths.{Thousandths}
 use Rattle.scale.specs.Forms.{halves}

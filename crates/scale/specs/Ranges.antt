@@ -1,5 +1,5 @@
 -- Thousandths: the points 0 to 1000, and the bounds that are closed ranges of them.
-use Rattle.std.specs.Prelude.{◌≡◌, ℕ, ◌<◌, ◌≤◌, min, Bool, true, cond, ◌&&◌, ◌⊎◌, List, Some, None, Ok, Err, Option, Result, ◌≢◌, nat_le, nat_lt}
+use Rattle.std.specs.Prelude.{◌≡◌, ℕ, ◌≤◌, min, true, cond, ◌&&◌, ◌⊎◌, List, Some, None, Ok, Err, Option, Result, ◌≢◌, nat_le, nat_lt}
 use Rattle.points.specs.Points.{Points, Same}
 use Rattle.scale.specs.declared.ranges.Thousandths.{Thousandths}
 use Rattle.scale.specs.declared.ranges.NotARange.{NotARange}

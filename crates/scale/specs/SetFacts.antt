@@ -1,16 +1,16 @@
 -- Sets of modes, by the bits of their masks. Assumes nothing.
-use Rattle.std.specs.Prelude.{◌≡◌, ℕ, zero, suc, ◌+◌, ◌-◌, ◌*◌, ◌/◌, ◌%◌, ◌^◌, ◌<◌, ◌≤◌, Bool, true, false, not, ◌&&◌, ◌⊎◌, ◌==◌, ◌≢◌, nat_eq, nat_lt, refl}
-use Rattle.std.proofs.Common.{⊎_elim, inl, inr, sym, ap, ◌∙◌, mod-eq_of_lt, lt_of_le_of_lt, one-add, arith}
+use Rattle.std.specs.Prelude.{◌≡◌, ℕ, zero, suc, ◌+◌, ◌-◌, ◌*◌, ◌/◌, ◌%◌, ◌^◌, ◌<◌, ◌≤◌, Bool, true, false, not, ◌&&◌, ◌==◌, ◌≢◌, nat_eq, nat_lt, refl}
+use Rattle.std.proofs.Common.{⊎_elim, sym, ap, ◌∙◌, mod-eq_of_lt, lt_of_le_of_lt, one-add, arith}
 use Rattle.std.specs.Int.Bits.{bit_and}
 use Rattle.std.proofs.Math.Pow.{mod-mod-pow}
 use Rattle.std.proofs.lemmas.Nat.{and_le_l, and_shr, and_mod, mod-pow-add, field_of, mod_below}
-use Rattle.std.proofs.lemmas.Bool.{and_parts, and_from, ltb-true, lt-ltb, le-ltb, eqb-true, eq-eqb, cases_lt, both_ways, not-true}
+use Rattle.std.proofs.lemmas.Bool.{and_parts, ltb-true, lt-ltb, le-ltb, eqb-true, eq-eqb, cases_lt, both_ways, not-true}
 use Rattle.std.proofs.lemmas.Bool.Decides.{same_from_decides, nat_tests}
-use Rattle.points.specs.Points.{Points, Iff, Same, Meet, Loose, each_below, within, void}
+use Rattle.points.specs.Points.{Iff, Same, Meet, Loose, each_below, within, void}
 use Rattle.points.proofs.Decided.{each_use, within_decides, void_decides}
 use Rattle.scale.specs.declared.sets.Modes.{Modes}
 use Rattle.scale.specs.Forms.{halves}
-use Rattle.scale.specs.Sets.{bit, modes, points, masked, set_form, Canonical, SetsApart}
+use Rattle.scale.specs.Sets.{bit, modes, points, masked, set_form, SetsApart}
 use Rattle.scale.specs.FourBytes.{halves_apart}
 
 -- a bit of a conjunction

@@ -1,5 +1,5 @@
 -- What a program has room for, and the house that its tables describe.
-use Rattle.std.specs.Prelude.{◌≡◌, ℕ, take, vec_len}
+use Rattle.std.specs.Prelude.{◌≡◌, take, vec_len}
 use Rattle.house.specs.declared.tables.House.{House}
 use Rattle.house.specs.declared.tables.Sizes.{Sizes}
 use Rattle.record_entry.specs.declared.Counts.{Counts}

@@ -1,15 +1,15 @@
 -- A write to one cell, seen as a course. Assumes nothing.
-use Rattle.std.proofs.Common.{◌≡◌, ℕ, zero, suc, ◌+◌, ◌-◌, ◌*◌, ◌<◌, ◌≤◌, Bool, true, false, cond, not, ◌&&◌, ◌||◌, eqb, ltb, ◌≢◌, ◌⊎◌, List, [], ◌∷◌, length, get_or, set, sym, refl, ap, ◌∙◌, subst, inl, inr, ⊎_elim, arith}
-use Rattle.std.proofs.lemmas.Bool.{and_parts, and_from, and_left, eqb-true, eqb-false, eq-eqb, ne_eqb, cases_Bool, cases_lt, both_ways, cond-true, cond-false, true≢false}
+use Rattle.std.proofs.Common.{◌≡◌, ℕ, zero, suc, ◌<◌, ◌≤◌, Bool, true, false, cond, not, ◌&&◌, eqb, ltb, ◌≢◌, List, [], ◌∷◌, length, get_or, set, sym, refl, ap, ◌∙◌, ⊎_elim, arith}
+use Rattle.std.proofs.lemmas.Bool.{and_parts, and_from, and_left, eqb-true, eq-eqb, cases_Bool, both_ways, true≢false}
 use Rattle.points.specs.Points.{Points, Among, Same, Meet, Loose, implies, within, each_below}
 use Rattle.points.specs.Tables.{at_place}
 use Rattle.points.proofs.Decided.{implies_from, each_use, each_from, same_test, within_decides}
-use Rattle.points.proofs.Tabled.{at_read, at-get_or, at_else}
+use Rattle.points.proofs.Tabled.{at_read, at_else}
 use Rattle.house.specs.declared.tables.Sizes.{Sizes}
-use Rattle.house.specs.Cells.{components, inside, place, cell_count}
-use Rattle.house.proofs.Places.{inside_use, place_lt, place_same}
-use Rattle.fitting.specs.Course.{Course, course_of, loosest}
-use Rattle.writes.specs.Written.{Whole, Narrowed, on_cell, Freed, one_cell}
+use Rattle.house.specs.Cells.{inside, place}
+use Rattle.house.proofs.Places.{inside_use, place_same}
+use Rattle.fitting.specs.Course.{course_of, loosest}
+use Rattle.writes.specs.Written.{Narrowed, on_cell, Freed, one_cell}
 
 at_set_same : {A : Type 0} (d : Bool) (f : A → Bool) (xs : List A) (i : ℕ) (v : A) → i < length xs → at_place d f (set xs i v) i ≡ f v
 unfolding at_place

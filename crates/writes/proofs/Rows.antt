@@ -1,13 +1,13 @@
 -- An hour copied from the one before, seen as a course. Assumes nothing.
-use Rattle.std.proofs.Common.{◌≡◌, ℕ, zero, suc, ◌+◌, ◌-◌, ◌*◌, ◌<◌, ◌≤◌, Bool, true, false, cond, ◌&&◌, eqb, ◌⊎◌, List, [], ◌∷◌, length, get_or, sym, refl, ap, ◌∙◌, subst, inl, inr, ⊎_elim, mul_assoc, add-mul, arith}
+use Rattle.std.proofs.Common.{◌≡◌, ℕ, suc, ◌+◌, ◌-◌, ◌*◌, ◌<◌, ◌≤◌, Bool, true, false, ◌&&◌, eqb, List, [], ◌∷◌, length, get_or, sym, refl, ap, ◌∙◌, ⊎_elim, mul_assoc, add-mul, arith}
 use Rattle.std.proofs.lemmas.Nat.{mul-le}
-use Rattle.std.proofs.lemmas.Bool.{eqb-true, eqb-false, eq-eqb, cases_Bool, cases_eq, cases_lt, both_ways, cond-true, cond-false, and_left}
+use Rattle.std.proofs.lemmas.Bool.{eqb-true, eqb-false, cases_Bool, cases_lt, both_ways, cond-true, cond-false, and_left}
 use Rattle.points.specs.Points.{Points}
 use Rattle.points.specs.Tables.{at_place}
 use Rattle.points.proofs.Tabled.{at-get_or}
 use Rattle.house.specs.declared.tables.Sizes.{Sizes}
 use Rattle.house.specs.Cells.{components, inside, place, cell_count}
-use Rattle.house.proofs.Places.{IsCell, inside_use, inside_from, place_lt, place_hour, column_lt, hour_cells, hour_of_place, cell_only, hour_at}
+use Rattle.house.proofs.Places.{IsCell, inside_use, inside_from, place_lt, place_hour, column_lt, hour_cells, hour_of_place, cell_only}
 use Rattle.fitting.specs.Course.{Course, course_of}
 use Rattle.writes.specs.Written.{Whole, Repeats}
 

@@ -1,4 +1,4 @@
-use Rattle.std.proofs.Common.{◌∙◌, arith}
+use Rattle.std.proofs.Common.{arith}
 use Rattle.engine.proofs.Hourly.{settled_more}
 use Rattle.engine.proofs.settle_hour.Goals as goal
 

@@ -1,4 +1,3 @@
-use Rattle.std.proofs.Common.{sym, ◌∙◌}
 use Rattle.judge.proofs.TableReads.{seen_fixed, seen_else, cell_read, cell_none}
 use Rattle.judge.proofs.seen.Goals as goal
 

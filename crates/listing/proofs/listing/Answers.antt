@@ -1,4 +1,4 @@
-use Rattle.std.proofs.Common.{sym, ◌∙◌}
+use Rattle.std.proofs.Common.{◌∙◌}
 use Rattle.std.proofs.lemmas.List.{take_all}
 use Rattle.listing.proofs.LineFacts.{listing_none, listing_more}
 use Rattle.listing.proofs.listing.Goals as goal

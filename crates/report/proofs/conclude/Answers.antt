@@ -1,4 +1,4 @@
-use Rattle.std.proofs.Common.{◌≡◌, min, length, sym, refl, ap, ◌∙◌}
+use Rattle.std.proofs.Common.{min, length, ap, ◌∙◌}
 use lib.ListN.{length-replicate}
 use Rattle.std.proofs.lemmas.Result.{IfOk-weaker}
 use Rattle.report.proofs.Concluding.{concluded}

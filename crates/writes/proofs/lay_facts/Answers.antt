@@ -1,4 +1,3 @@
-use Rattle.std.proofs.Common.{List}
 use Rattle.std.proofs.lemmas.List.{take_all}
 use Rattle.writes.proofs.Narrowing.{facts_none, facts_more}
 use Rattle.writes.proofs.lay_facts.Goals as goal

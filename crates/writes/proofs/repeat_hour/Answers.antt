@@ -1,4 +1,4 @@
-use Rattle.std.proofs.Common.{◌≡◌, ℕ, ◌+◌, ◌*◌, ◌≤◌, length, sym, ap, arith}
+use Rattle.std.proofs.Common.{◌+◌, ◌*◌, ◌≤◌, length, arith}
 use Rattle.writes.proofs.Rows.{row_few, row_step, row_copied, row_there, first_repeats}
 use Rattle.writes.proofs.repeat_hour.Goals as goal
 use Rattle.writes.proofs.repeat_hour.Goals.{else-hour-ge1-via-then-hour-ge1+else-start-row, else-hour-ge1-via-else-hour-ge1}

@@ -1,5 +1,5 @@
 use Rattle.std.proofs.Common.{arith}
-use Rattle.engine.proofs.Constraining.{constrained_none, constrained_then, elsewhere_then, spent_few}
+use Rattle.engine.proofs.Constraining.{constrained_then, elsewhere_then, spent_few}
 use Rattle.fitting.specs.Course.{course_of}
 use Rattle.engine.proofs.constraints.constrain.Goals as goal
 

@@ -1,4 +1,4 @@
-use Rattle.std.proofs.Common.{◌≡◌, sym, ◌∙◌}
+use Rattle.std.proofs.Common.{sym, ◌∙◌}
 use Rattle.fitting.proofs.Rest.{cells_inside}
 use Rattle.engine.proofs.Held.{read_again}
 use Rattle.engine.proofs.Constraining.{passed_none, passed_fires, passed_still, passed_rests}

@@ -1,4 +1,4 @@
-use Rattle.std.proofs.Common.{◌≡◌, sym, ◌∙◌, arith}
+use Rattle.std.proofs.Common.{sym, ◌∙◌, arith}
 use Rattle.engine.proofs.Held.{held_holds}
 use Rattle.engine.proofs.Pressing.{off_pressed, alone_pressed, pressed}
 use Rattle.engine.proofs.rules.press.Goals as goal

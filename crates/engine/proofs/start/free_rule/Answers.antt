@@ -1,4 +1,4 @@
-use Rattle.std.proofs.Common.{◌≡◌, ◌<◌, sym, ◌∙◌, arith}
+use Rattle.std.proofs.Common.{◌<◌, sym, ◌∙◌, arith}
 use Rattle.house.specs.Cells.{components}
 use Rattle.engine.proofs.Held.{held_holds}
 use Rattle.engine.proofs.Starting.{below_none, below_held, below_free, below_all, early_frees}

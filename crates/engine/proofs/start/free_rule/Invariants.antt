@@ -1,4 +1,3 @@
-use Rattle.std.proofs.Common.{◌≤◌}
 use Rattle.fitting.specs.Course.{course_of}
 use Rattle.judge.specs.Judged.{Countable, AllJudged}
 use Rattle.writes.specs.Written.{Whole, Freed}

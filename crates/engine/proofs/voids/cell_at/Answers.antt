@@ -1,5 +1,5 @@
-use Rattle.std.proofs.Common.{◌≡◌, ℕ, ◌/◌, ◌%◌, ◌<◌, ap, ◌∙◌, arith}
-use Rattle.house.specs.Cells.{components, cell_count}
+use Rattle.std.proofs.Common.{◌≡◌, ℕ, ◌/◌, ◌%◌, ◌<◌, ap, arith}
+use Rattle.house.specs.Cells.{cell_count}
 use Rattle.house.proofs.Places.{cell_at, hour_at, component_at}
 use Rattle.engine.proofs.VoidCells.{cell_found}
 use Rattle.engine.proofs.voids.cell_at.Goals as goal

@@ -1,5 +1,5 @@
-use Rattle.std.proofs.Common.{◌≡◌, length, sym, subst, arith}
-use Rattle.engine.proofs.VoidCells.{FullBelow, full_none, full_more, none_void, some_void}
+use Rattle.std.proofs.Common.{◌≡◌, length, arith}
+use Rattle.engine.proofs.VoidCells.{full_none, full_more, none_void, some_void}
 use Rattle.engine.proofs.voids.first_void.Goals as goal
 
 pub loop-at-init : goal.loop-at-init

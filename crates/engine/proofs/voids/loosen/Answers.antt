@@ -1,4 +1,4 @@
-use Rattle.std.proofs.Common.{◌≡◌, ◌<◌, ◌≢◌, length, sym, subst, arith, get_or-set_other, get_or-set_same, below_more}
+use Rattle.std.proofs.Common.{◌<◌, ◌≢◌, length, sym, subst, arith, get_or-set_other, get_or-set_same, below_more}
 use Rattle.points.specs.Points.{Loose}
 use Rattle.engine.proofs.voids.loosen.Goals as goal
 

@@ -1,5 +1,4 @@
-use Rattle.std.proofs.Common.{arith, rules}
-use Rattle.std.proofs.lemmas.Bool.Decides.{nat_tests}
+use Rattle.std.proofs.Common.{rules}
 use Rattle.points.specs.Points.{implies}
 use Rattle.examining.specs.Checks.{condition_kept}
 use Rattle.examining.proofs.checks.keeps_kind.Goals as goal

@@ -1,4 +1,4 @@
-use Rattle.std.proofs.Common.{◌≡◌, length, sym, ◌∙◌, arith, rules}
+use Rattle.std.proofs.Common.{◌∙◌, arith}
 use Rattle.judge.proofs.Feeding.{tallied_none, tallied_skip, tallied_unmet, tallied_met, tallied_all}
 use Rattle.judge.proofs.counts.neighbours.Goals as goal
 use Rattle.judge.proofs.counts.neighbours.Goals.{then-edge_feeds+then-body_met, then-edge_feeds+else-body_met, else-edge_feeds}

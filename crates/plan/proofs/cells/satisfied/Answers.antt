@@ -1,6 +1,5 @@
-use Rattle.std.proofs.Common.{sym, refl, arith}
+use Rattle.std.proofs.Common.{refl, arith}
 use Rattle.std.proofs.lemmas.Bool.{false≢true}
-use Rattle.fitting.specs.Course.{course_of}
 use Rattle.plan.proofs.Seen.{before_none, before_more, before_all, at_one}
 use Rattle.plan.proofs.cells.satisfied.Goals as goal
 

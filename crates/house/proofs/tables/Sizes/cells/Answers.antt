@@ -1,4 +1,4 @@
-use Rattle.std.proofs.Common.{◌≤◌, arith}
+use Rattle.std.proofs.Common.{arith}
 use Rattle.house.proofs.Places.{cells_few}
 use Rattle.house.proofs.tables.Sizes.cells.Goals as goal
 

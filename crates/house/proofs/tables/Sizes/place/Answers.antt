@@ -1,5 +1,4 @@
-use Rattle.std.proofs.Common.{◌≡◌, ℕ, ◌+◌, ◌-◌, ◌*◌, ◌≤◌, sym, refl, arith}
-use Rattle.house.specs.Cells.{components}
+use Rattle.std.proofs.Common.{sym, refl, arith}
 use Rattle.house.proofs.Places.{inside_use, place_lt, row_few}
 use Rattle.house.proofs.tables.Sizes.place.Goals as goal
 

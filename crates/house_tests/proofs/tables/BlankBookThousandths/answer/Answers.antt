@@ -1,4 +1,4 @@
-use Rattle.std.proofs.Common.{◌≡◌, Bool, true, false, cond, sym, refl, ◌∙◌}
+use Rattle.std.proofs.Common.{◌≡◌, Bool, true, false, cond, refl, ◌∙◌}
 use Rattle.book.specs.Meaning.{answered}
 use Rattle.house_tests.proofs.tables.BlankBookThousandths.answer.Goals as goal
 

@@ -1,4 +1,4 @@
-use Rattle.std.proofs.Common.{◌≡◌, min, length, sym, refl, arith, rules}
+use Rattle.std.proofs.Common.{sym, arith}
 use Rattle.judge.proofs.Verdict.{worked_none, worked_length, worked_more, worked_all}
 use Rattle.judge.proofs.verdicts.Verdicts.of.Goals as goal
 

@@ -1,5 +1,4 @@
-use Rattle.std.proofs.Common.{◌≡◌, ◌<◌, ◌≤◌, min, true, sym, ◌∙◌, arith, rules}
-use Rattle.points.specs.Points.{void}
+use Rattle.std.proofs.Common.{◌≡◌, true, sym, arith, rules}
 use Rattle.points.proofs.Decided.{void_decides}
 use Rattle.scale.specs.Ranges.{points}
 use Rattle.scale.specs.RangeFacts.{range_use, range_from, not_void}
