@@ -8,14 +8,14 @@ returns g c =
     (λ s text. (
       _,
       record {
-        edges = c.deref_mut.ensures.len ∙ c.in_ok-space.ensures.edges;
-        fixed = c.deref_mut-2.ensures.len ∙ c.in_ok-space.ensures.fixed;
-        tests = c.deref_mut-3.ensures.len ∙ c.in_ok-space.ensures.tests;
-        conditions = c.deref_mut-4.ensures.len ∙ c.in_ok-space.ensures.conditions;
-        constraints = c.deref_mut-5.ensures.len ∙ c.in_ok-space.ensures.constraints;
-        rules = c.deref_mut-6.ensures.len ∙ c.in_ok-space.ensures.rules;
-        steps = c.deref_mut-7.ensures.len ∙ c.in_ok-space.ensures.steps;
-        facts = c.deref_mut-8.ensures.len ∙ c.in_ok-space.ensures.facts;
+        edges = c.deref_mut.ensures.len ∙ c.in_ok-edges.ensures;
+        fixed = c.deref_mut-2.ensures.len ∙ c.in_ok-fixed.ensures;
+        tests = c.deref_mut-3.ensures.len ∙ c.in_ok-tests.ensures;
+        conditions = c.deref_mut-4.ensures.len ∙ c.in_ok-conditions.ensures;
+        constraints = c.deref_mut-5.ensures.len ∙ c.in_ok-constraints.ensures;
+        rules = c.deref_mut-6.ensures.len ∙ c.in_ok-rules.ensures;
+        steps = c.deref_mut-7.ensures.len ∙ c.in_ok-steps.ensures;
+        facts = c.deref_mut-8.ensures.len ∙ c.in_ok-facts.ensures;
       },
       text,
     ))
