@@ -11,7 +11,7 @@ use Rattle.examining.specs.declared.defects.Defect.{Defect}
 use Rattle.house.specs.Cells.{fact_inside}
 use Rattle.examining.specs.Examine.{Check, Clear, FailsAt, AllClear, FirstFails}
 use Rattle.examining.specs.Examine.{checks}
-use Rattle.examining.specs.Defects.{number_of as defectNumber, place_of as defectPlace}
+use Rattle.examining.specs.Defects.{number_of as defect_number, place_of as defect_place}
 use Rattle.plan.specs.declared.refusals.Refusal.{Refusal}
 use Rattle.plan.specs.declared.refusals.Refusal.TheVariants.{House as HouseCase}
 use Rattle.plan.specs.Refusals.{number_of, place_of}
@@ -87,9 +87,9 @@ module _ {S : Type 0} (n : ℕ) (has : S → Points) (h : House S) (formulas cou
   abbrev later : List Check
   later = table_holds count (length table) ∷ facts_fit h.sizes (take count table) ∷ course_long h.sizes long ∷ []
 
-  pub examine_refuses : (d : Defect) → FirstFails (checks n has h formulas) (defectNumber d) (defectPlace d) →
+  pub examine_refuses : (d : Defect) → FirstFails (checks n has h formulas) (defect_number d) (defect_place d) →
       RefusedBy (settle_checks n has h formulas count table long) (HouseCase d)
-  examine_refuses d f = fails_front (checks n has h formulas) later (defectNumber d) (defectPlace d) f
+  examine_refuses d f = fails_front (checks n has h formulas) later (defect_number d) (defect_place d) f
 
   pub facts_refuse : (r : Refusal) → AllClear (checks n has h formulas) → leb count (length table) ≡ true →
       RefusedBy (facts_fit h.sizes (take count table) ∷ []) r → RefusedBy (settle_checks n has h formulas count table long) r
