@@ -1,5 +1,5 @@
 -- What each check asks of a house, place by place.
-use Rattle.std.specs.Prelude.{ℕ, ◌+◌, ◌*◌, Bool, true, false, not, ◌&&◌, ◌||◌, ltb, List, [], ◌∷◌, length, ◌==◌, nat_le, nat_lt}
+use Rattle.std.specs.Prelude.{ℕ, ◌+◌, ◌*◌, Bool, true, false, not, ◌&&◌, ◌||◌, List, [], ◌∷◌, length, ◌==◌, nat_le, nat_lt}
 use Rattle.points.specs.Points.{Points, each_below, implies, void}
 use Rattle.points.specs.Tables.{at_place}
 use Rattle.house.specs.declared.tables.Body.{Body}
@@ -79,7 +79,7 @@ test_passes s = at_place true (λ t. names_label_lem s t.label)
 
 -- there is a test of this number, and its label is fixed
 unfoldable pub tests_fixed_lem : {S : Type 0} → Sizes → List (Test S) → ℕ → Bool
-tests_fixed_lem s = at_place false (λ t. ltb t.label s.fixed)
+tests_fixed_lem s = at_place false (λ t. nat_lt t.label s.fixed)
 
 -- there is a test of this number, and its label moves
 unfoldable pub tests_moving_lem : {S : Type 0} → Sizes → List (Test S) → ℕ → Bool

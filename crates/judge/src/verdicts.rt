@@ -1,5 +1,5 @@
 // Which conditions hold on a component. They look at its fixed bounds alone, so they are worked out once.
-ghost use Rattle.std.specs.Prelude.{◌≡◌, false, get_or, slice_index_or};
+ghost use Rattle.std.specs.Prelude.{◌≡◌, false, slice_index_or};
 ghost use Rattle.fitting.specs.Conditions.{fixed_met_lem, verdict};
 ghost use Rattle.judge.specs.Judged.{held_by, held_on_lem, Judges};
 
@@ -50,7 +50,7 @@ fn known(said: &[bool], condition: u8) -> bool
 
 // What a condition says on a component, where `said` is what the earlier ones say.
 fn judged<S: Scale>(house: &House<S>, component: u16, said: &[bool], condition: Condition) -> bool
-    ensures { result ≡ verdict S.Scale.size S.Scale.has house.now component (λ j. get_or said.now j false) condition }
+    ensures { result ≡ verdict S.Scale.size S.Scale.has house.now component (λ j. slice_index_or said.now j false) condition }
 {
     let first = known(said, condition.a);
     let second = known(said, condition.b);
