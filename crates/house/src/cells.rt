@@ -2,7 +2,7 @@
 ghost use Rattle.std.specs.Prelude.{◌≡◌, nat_le, nat_lt};
 ghost use Rattle.house.specs.Cells.{components, moves, inside, cell_count, fact_inside, Placed};
 
-use super::{Fact, Sizes};
+use super::{Cell, Fact, Sizes};
 
 impl Sizes {
     // How many components there are: the nodes and the edges.
@@ -33,11 +33,11 @@ impl Sizes {
         (component as usize) < self.components()
     }
 
-    // Whether there is a cell of this hour, component and label.
-    pub fn inside(self, hour: u8, component: u16, label: u8) -> bool
-        ensures { result ≡ inside self hour component label }
+    // Whether there is such a cell.
+    pub fn inside(self, cell: Cell) -> bool
+        ensures { result ≡ inside self cell.hour cell.component cell.label }
     {
-        self.has_hour(hour) && self.has_component(component) && self.moves(label)
+        self.has_hour(cell.hour) && self.has_component(cell.component) && self.moves(cell.label)
     }
 
     // How many cells there are: one for each hour, component and moving label.
@@ -49,12 +49,12 @@ impl Sizes {
 
     // Where a cell stands among the cells: hour by hour, in an hour component by component, there label by label.
     // None where there is no such cell.
-    pub fn place(self, hour: u8, component: u16, label: u8) -> Option<usize>
-        ensures { Placed self hour component label result }
+    pub fn place(self, cell: Cell) -> Option<usize>
+        ensures { Placed self cell.hour cell.component cell.label result }
     {
-        if self.inside(hour, component, label) {
-            let row = hour as usize * self.components() + component as usize;
-            Some(row * self.moving as usize + (label - self.fixed) as usize)
+        if self.inside(cell) {
+            let row = cell.hour as usize * self.components() + cell.component as usize;
+            Some(row * self.moving as usize + (cell.label - self.fixed) as usize)
         } else {
             None
         }

@@ -4,4 +4,4 @@
 mod cells;
 mod tables;
 
-pub use tables::{Body, Condition, Constraint, Edge, Fact, House, Rule, Sizes, Test};
+pub use tables::{Body, Cell, Condition, Constraint, Edge, Fact, House, Kind, Rule, Sizes, Test};

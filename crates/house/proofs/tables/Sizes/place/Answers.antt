@@ -4,14 +4,14 @@ use Rattle.house.proofs.tables.Sizes.place.Goals as goal
 
 pub overflow_mul-result : goal.overflow_mul-result
 overflow_mul-result c =
-    omega (arith, row_few c.args.hour c.components.result c.args.component c.args.self.moving (omega arith) (omega arith) (omega arith) (omega arith))
+    omega (arith, row_few c.args.cell.hour c.components.result c.args.cell.component c.args.self.moving (omega arith) (omega arith) (omega arith) (omega arith))
 
 pub overflow_sub-result : goal.overflow_sub-result
 overflow_sub-result c = let i = inside_use _ _ _ _ (sym c.if-inside.ensures) in omega (arith, i.fixed)
 
 pub overflow_add-result : goal.overflow_add-result
 overflow_add-result c =
-    omega (arith, row_few c.args.hour c.components.result c.args.component c.args.self.moving (omega arith) (omega arith) (omega arith) (omega arith))
+    omega (arith, row_few c.args.cell.hour c.components.result c.args.cell.component c.args.self.moving (omega arith) (omega arith) (omega arith) (omega arith))
 
 pub returns-then-inside : goal.returns-then-inside
 returns-then-inside c =
