@@ -9,30 +9,29 @@ use Rattle.house.specs.declared.tables.House.{House}
 use Rattle.house.specs.declared.tables.Fact.{Fact}
 use Rattle.house.specs.declared.tables.Rule.{Rule}
 use Rattle.house.specs.declared.tables.Condition.{Condition}
+use Rattle.house.specs.declared.tables.Kind.{Kind}
+use Rattle.house.specs.declared.tables.Kind.TheVariants.{Test, Not, Both, Either, Unknown}
 use Rattle.house.specs.Cells.{covers}
-use Rattle.fitting.specs.Conditions.{fixed_met_lem, verdict, said, holds}
+use Rattle.house.specs.Kinds.{names_first, names_second}
+use Rattle.fitting.specs.Conditions.{of_kind, fixed_met_lem, verdict, said, holds}
 use Rattle.fitting.specs.Neighbours.{leads, eligible}
 use Rattle.fitting.specs.Edges.{edge_at}
 use Rattle.fitting.specs.Touched.{acts, touched}
 use Rattle.fitting.specs.Laws.{Feeds}
 
+-- a kind looks only at what it names
+kind_same : (kind : Kind) (test : Bool) {a a' b b' : Bool} → (names_first kind ≡ true → a ≡ a') → (names_second kind ≡ true → b ≡ b') → of_kind kind test a b ≡ of_kind kind test a' b'
+kind_same Test test first second = refl
+kind_same Not test first second = ap not (first refl)
+kind_same Both test first second = rw (first refl, second refl)
+kind_same Either test first second = rw (first refl, second refl)
+kind_same (Unknown m) test first second = rw (first refl, second refl)
+
 module _ {S : Type 0} (n : ℕ) (has : S → Points) (h : House S) (c : ℕ) where
   -- a verdict looks only at the conditions that it names
-  pub verdict_same : (f g : ℕ → Bool) (k : Condition) → (1 ≤ k.kind → f k.a ≡ g k.a) → (2 ≤ k.kind → f k.b ≡ g k.b) → verdict n has h c f k ≡ verdict n has h c g k
+  pub verdict_same : (f g : ℕ → Bool) (k : Condition) → (names_first k.kind ≡ true → f k.a ≡ g k.a) → (names_second k.kind ≡ true → f k.b ≡ g k.b) → verdict n has h c f k ≡ verdict n has h c g k
   unfolding verdict
-  verdict_same f g k first second =
-      pick (eqb k.kind 0) (fixed_met_lem n has h c k.a)
-      (λ z. let ne = eqb-false k.kind 0 z in
-      pick' (eqb k.kind 1) (ap not (first (omega arith)))
-      (λ o. let no' = eqb-false k.kind 1 o in rw (first (omega arith), second (omega arith))))
-    where
-      pick : (w x : Bool) {y z : Bool} → (w ≡ false → y ≡ z) → cond w x y ≡ cond w x z
-      pick true x e = refl
-      pick false x e = e refl
-
-      pick' : (w : Bool) {x x' y z : Bool} → x ≡ x' → (w ≡ false → y ≡ z) → cond w x y ≡ cond w x' z
-      pick' true d e = d
-      pick' false d e = e refl
+  verdict_same f g k first second = kind_same k.kind (fixed_met_lem n has h c k.a) first second
 
   -- the condition that comes next, by the earlier ones
   pub said_here : (m : ℕ) (k : Condition) → m < length h.conditions.now → k ≡ get_or h.conditions.now m k → said n has h c (suc m) m ≡ verdict n has h c (said n has h c m) k
@@ -49,7 +48,7 @@ module _ {S : Type 0} (n : ℕ) (has : S → Points) (h : House S) (c : ℕ) whe
   said_stays (suc m) i j lt le =
       ⊎_elim (λ e. ap (λ (k : ℕ). said n has h c k i) (sym e)) (λ less. said_before m i (λ q. omega arith) ∙ said_stays m i j lt (omega arith)) (eq-or-lt_of_le le)
 
-  pub said_by_kind : (i : ℕ) (k : Condition) → i < length h.conditions.now → k ≡ get_or h.conditions.now i k → (1 ≤ k.kind → k.a < i) → (2 ≤ k.kind → k.b < i) →
+  pub said_by_kind : (i : ℕ) (k : Condition) → i < length h.conditions.now → k ≡ get_or h.conditions.now i k → (names_first k.kind ≡ true → k.a < i) → (names_second k.kind ≡ true → k.b < i) →
       said n has h c (length h.conditions.now) i ≡ verdict n has h c (said n has h c (length h.conditions.now)) k
   said_by_kind i k lt is first second =
       said_stays (length h.conditions.now) i (suc i) (omega arith) (omega arith) ∙ said_here i k lt is

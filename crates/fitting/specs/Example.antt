@@ -1,10 +1,11 @@
 -- A small house worked out by the definitions: the nodes 0 and 1 feed the node 2.
 use Rattle.std.specs.Borrow.{Bor}
-use Rattle.std.specs.Prelude.{◌≡◌, ℕ, ◌+◌, ◌*◌, ◌/◌, ◌%◌, ◌^◌, Bool, true, false, ◌&&◌, ◌||◌, List, [], ◌∷◌, ◌==◌, nat_lt}
+use Rattle.std.specs.Prelude.{◌≡◌, ℕ, ◌+◌, ◌*◌, ◌/◌, ◌%◌, ◌^◌, Bool, true, false, ◌&&◌, ◌||◌, List, [], ◌∷◌, Some, None, Option, ◌==◌, nat_lt}
 use Rattle.points.specs.Points.{Points}
 use Rattle.house.specs.declared.tables.House.{House}
 use Rattle.house.specs.declared.tables.Rule.{Rule}
 use Rattle.house.specs.declared.tables.Fact.{Fact}
+use Rattle.house.specs.declared.tables.Kind.TheVariants.{Test, Not, Both, Either}
 use Rattle.fitting.specs.Course.{Course, loosest, course_of}
 use Rattle.fitting.specs.Tests.{test_met_lem, body_met_lem}
 use Rattle.fitting.specs.Conditions.{holds}
@@ -27,11 +28,11 @@ lent xs = record { ref_ptr = (0, 0); now = xs }
 
 -- on a node that meets condition 0, over edges that meet condition 1, from any node, an hour after test 2 is met on it
 abbrev pub rule : Rule
-rule = record { target = 1; delay = 1; onto = 0; along = 1; source = 255; body = record { first = 2; count = 1 }; formula = 0 }
+rule = record { target = 1; delay = 1; onto = Some 0; along = Some 1; source = None; body = record { first = 2; count = 1 }; formula = 0 }
 
 -- on every node, over edges of which none meets condition 3
 abbrev pub idle : Rule
-idle = record { target = 2; delay = 1; onto = 255; along = 3; source = 255; body = record { first = 0; count = 0 }; formula = 0 }
+idle = record { target = 2; delay = 1; onto = None; along = Some 3; source = None; body = record { first = 0; count = 0 }; formula = 0 }
 
 -- label 0 is fixed, 1 and 2 move. Test 3 is void. The conditions are test 0, test 1, not the second, the first and the
 -- third, the first or the second. Where test 2 is met test 4 has to be; where test 3 is met test 2 would have to be
@@ -42,7 +43,7 @@ house =
       edges = lent (record { from = 0; to = 2 } ∷ record { from = 1; to = 2 } ∷ []);
       fixed = lent (15 ∷ 15 ∷ 8 ∷ 2 ∷ 4 ∷ []);
       tests = lent (record { label = 0; bound = 8 } ∷ record { label = 0; bound = 2 } ∷ record { label = 1; bound = 1 } ∷ record { label = 1; bound = 0 } ∷ record { label = 2; bound = 3 } ∷ []);
-      conditions = lent (record { kind = 0; a = 0; b = 0 } ∷ record { kind = 0; a = 1; b = 0 } ∷ record { kind = 1; a = 1; b = 0 } ∷ record { kind = 2; a = 0; b = 2 } ∷ record { kind = 3; a = 0; b = 1 } ∷ []);
+      conditions = lent (record { kind = Test; a = 0; b = 0 } ∷ record { kind = Test; a = 1; b = 0 } ∷ record { kind = Not; a = 1; b = 0 } ∷ record { kind = Both; a = 0; b = 2 } ∷ record { kind = Either; a = 0; b = 1 } ∷ []);
       constraints = lent (record { head = 4; body = record { first = 2; count = 1 } } ∷ record { head = 2; body = record { first = 3; count = 1 } } ∷ []);
       rules = lent (rule ∷ idle ∷ []);
     }
@@ -69,7 +70,7 @@ abbrev pub nothing : Course
 nothing t c l p = false
 
 -- condition i on the three nodes and then the two edges
-abbrev pub on_each : ℕ → List Bool
+abbrev pub on_each : Option ℕ → List Bool
 on_each i = holds 4 has house i 0 ∷ holds 4 has house i 1 ∷ holds 4 has house i 2 ∷ holds 4 has house i 3 ∷ holds 4 has house i 4 ∷ []
 
 pub record ExampleStands : Type 0 where
@@ -77,17 +78,17 @@ pub record ExampleStands : Type 0 where
   pub void_cell : test_met_lem 4 has house nothing 0 0 2 ≡ true
   pub void_test : test_met_lem 4 has house nothing 0 0 3 ≡ false
   -- the five conditions, and the one that always holds
-  pub test_0 : on_each 0 ≡ false ∷ false ∷ true ∷ false ∷ false ∷ []
-  pub test_1 : on_each 1 ≡ false ∷ false ∷ false ∷ true ∷ false ∷ []
-  pub not_1 : on_each 2 ≡ true ∷ true ∷ true ∷ false ∷ true ∷ []
-  pub both : on_each 3 ≡ false ∷ false ∷ true ∷ false ∷ false ∷ []
-  pub either : on_each 4 ≡ false ∷ false ∷ true ∷ true ∷ false ∷ []
-  pub always : on_each 255 ≡ true ∷ true ∷ true ∷ true ∷ true ∷ []
+  pub test_0 : on_each (Some 0) ≡ false ∷ false ∷ true ∷ false ∷ false ∷ []
+  pub test_1 : on_each (Some 1) ≡ false ∷ false ∷ false ∷ true ∷ false ∷ []
+  pub not_1 : on_each (Some 2) ≡ true ∷ true ∷ true ∷ false ∷ true ∷ []
+  pub both : on_each (Some 3) ≡ false ∷ false ∷ true ∷ false ∷ false ∷ []
+  pub either : on_each (Some 4) ≡ false ∷ false ∷ true ∷ true ∷ false ∷ []
+  pub always : on_each None ≡ true ∷ true ∷ true ∷ true ∷ true ∷ []
   -- of the two nodes that feed node 2 one is eligible, since the edge from the other does not meet its condition
   pub one_eligible : eligible 4 has house rule 0 2 ≡ true
   pub other_not : eligible 4 has house rule 1 2 ≡ false
   pub y_is : eligibles 4 has house rule 2 ≡ 1
-  pub by_edges : edges_count house.edges.now (λ e. holds 4 has house 1 (3 + e)) (holds 4 has house 255) 2 ≡ 1
+  pub by_edges : edges_count house.edges.now (λ e. holds 4 has house (Some 1) (3 + e)) (holds 4 has house None) 2 ≡ 1
   -- on both the body is met at hour 0, and only the eligible one is counted at hour 1
   pub met_on_one : body_met_lem 4 has house course 0 0 rule.body ≡ true
   pub met_on_other : body_met_lem 4 has house course 0 1 rule.body ≡ true

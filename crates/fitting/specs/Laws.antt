@@ -8,6 +8,7 @@ use Rattle.house.specs.declared.tables.Body.{Body}
 use Rattle.house.specs.declared.tables.Condition.{Condition}
 use Rattle.house.specs.declared.tables.Rule.{Rule}
 use Rattle.house.specs.Cells.{covers}
+use Rattle.house.specs.Kinds.{names_first, names_second}
 use Rattle.fitting.specs.Course.{Course, Within, WithinUpto, SameCourse, SameUpto, OfHouse, VoidFree, course_of}
 use Rattle.fitting.specs.Tests.{test_met_lem, body_met_lem}
 use Rattle.fitting.specs.Conditions.{verdict, said, holds}
@@ -49,7 +50,7 @@ module _ {S : Type 0} (n : ℕ) (has : S → Points) (h : House S) (says : ℕ �
     -- what a list of cells means is a course of the house
     pub of_cells : (cells : List S) → OfHouse h.sizes n (course_of h.sizes has cells)
     -- a condition that names earlier ones alone says what its kind makes of what these say
-    pub by_kind : (c i : ℕ) (k : Condition) → i < length h.conditions.now → k ≡ slice_index_or h.conditions.now i k → (1 ≤ k.kind → k.a < i) → (2 ≤ k.kind → k.b < i) →
+    pub by_kind : (c i : ℕ) (k : Condition) → i < length h.conditions.now → k ≡ slice_index_or h.conditions.now i k → (names_first k.kind ≡ true → k.a < i) → (names_second k.kind ≡ true → k.b < i) →
         said n has h c (length h.conditions.now) i ≡ verdict n has h c (said n has h c (length h.conditions.now)) k
     -- a node is eligible exactly when an edge makes it so
     pub eligible_means : (r : Rule) (u v : ℕ) → Iff (eligible n has h r u v ≡ true) (Feeds n has h r u v)
