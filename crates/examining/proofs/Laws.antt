@@ -1,6 +1,6 @@
 -- The laws of accepted houses, from what the checks ask. Assumes nothing.
-use Rattle.std.proofs.Common.{◌≡◌, ℕ, ◌+◌, ◌<◌, ◌≤◌, Bool, true, false, eqb, ltb, leb, ◌⊎◌, List, [], ◌∷◌, length, get_or, sym, ◌∙◌, inl, inr, ⊎_elim, arith}
-use Rattle.std.proofs.lemmas.Bool.{and_parts, or_cases, not-true, both_ways, leb-true, ltb-true, eqb-true, le-leb, eq-eqb, and_from, cases_order, cases_lt}
+use Rattle.std.proofs.Common.{◌≡◌, ℕ, ◌+◌, ◌<◌, ◌≤◌, Bool, true, false, ltb, leb, List, [], ◌∷◌, Some, None, Option, length, get_or, sym, ◌∙◌, ⊎_elim, arith}
+use Rattle.std.proofs.lemmas.Bool.{and_parts, not-true, both_ways, leb-true, ltb-true, eqb-true, eq-eqb, and_from, cases_order, cases_lt}
 use Rattle.points.specs.Points.{Points, implies}
 use Rattle.points.specs.Tables.{at_place}
 use Rattle.points.proofs.Decided.{implies_use, each_use}
@@ -13,10 +13,11 @@ use Rattle.house.specs.declared.tables.House.{House}
 use Rattle.house.specs.declared.tables.Rule.{Rule}
 use Rattle.house.specs.declared.tables.Sizes.{Sizes}
 use Rattle.house.specs.Cells.{moves}
+use Rattle.house.specs.Kinds.{is_known, names_first, names_second}
 use Rattle.examining.specs.Checks.{between, size_passes, joins_nodes_lem, same_pair, new_pair, edge_passes, fixed_passes, names_label_lem, test_passes, tests_fixed_lem, tests_moving_lem, condition_kept, condition_passes, body_ends_lem, constraint_kept, constraint_passes, names_condition_lem, rule_kept, rule_passes}
 use Rattle.examining.specs.Defects.{number_of, place_of}
 use Rattle.examining.specs.Examine.{Check, FailsAt, AllClear, FirstFails, checks, Accepted}
-use Rattle.examining.specs.Lawful.{LawfulSizes, FixedTest, MovingTest, LawfulCondition, LawfulConstraint, LawfulRule, Lawful, AcceptedLaws}
+use Rattle.examining.specs.Lawful.{LawfulSizes, FixedTest, MovingTest, ConditionNamed, LawfulCondition, LawfulConstraint, LawfulRule, Lawful, AcceptedLaws}
 
 between_use : (low n high : ℕ) → between low n high ≡ true → (low ≤ n) × (n ≤ high)
 between_use low n high e = let p = and_parts (leb low n) (leb n high) e in (leb-true _ _ p.0, leb-true _ _ p.1)
@@ -66,9 +67,6 @@ there f xs i e =
 body_use : (n : ℕ) (b : Body) → body_ends_lem n b ≡ true → b.first + b.count ≤ n
 body_use n b e = leb-true _ _ e
 
-named_use : (n k : ℕ) → names_condition_lem n k ≡ true → (k ≡ 255) ⊎ (k < n)
-named_use n k e = ⊎_elim (λ h. inl (eqb-true _ _ h)) (λ h. inr (ltb-true _ _ h)) (or_cases (eqb k 255) (ltb k n) e)
-
 module _ {S : Type 0} (h : House S) where
   fixed_test : (a : ℕ) → tests_fixed_lem h.sizes h.tests.now a ≡ true → FixedTest h a
   unfolding tests_fixed_lem
@@ -78,17 +76,21 @@ module _ {S : Type 0} (h : House S) where
   unfolding tests_moving_lem
   moving_test a e = there _ h.tests.now a e
 
+  named_use : (k : Option ℕ) → names_condition_lem (length h.conditions.now) k ≡ true → ConditionNamed h k
+  named_use None e = tt
+  named_use (Some k) e = ltb-true _ _ e
+
   condition_lawful : (i : ℕ) (c : Condition) → condition_kept h.sizes h.tests.now i c ≡ true → LawfulCondition h i c
   unfolding condition_kept
   condition_lawful i c e =
-      let p = and_parts _ (implies (leb 2 c.kind) (ltb c.b i)) e in
-      let q = and_parts _ (implies (leb 1 c.kind) (ltb c.a i)) p.0 in
-      let r = and_parts (leb c.kind 3) _ q.0 in
+      let p = and_parts _ (implies (names_second c.kind) (ltb c.b i)) e in
+      let q = and_parts _ (implies (names_first c.kind) (ltb c.a i)) p.0 in
+      let r = and_parts (is_known c.kind) _ q.0 in
       record {
-        kind = leb-true _ _ r.0;
-        test = λ z. fixed_test c.a (implies_use _ _ r.1 (eq-eqb _ _ z));
-        first = λ z. ltb-true _ _ (implies_use _ _ q.1 (le-leb _ _ z));
-        second = λ z. ltb-true _ _ (implies_use _ _ p.1 (le-leb _ _ z));
+        kind = r.0;
+        test = λ z. fixed_test c.a (implies_use _ _ r.1 z);
+        first = λ z. ltb-true _ _ (implies_use _ _ q.1 z);
+        second = λ z. ltb-true _ _ (implies_use _ _ p.1 z);
       }
 
   constraint_lawful : (k : Constraint) → constraint_kept h.sizes h.tests.now k ≡ true → LawfulConstraint h k
@@ -109,9 +111,9 @@ module _ {S : Type 0} (h : House S) where
         target = p1.0;
         delay_least = delay.0;
         delay_most = delay.1;
-        onto = named_use _ _ p2.1;
-        along = named_use _ _ p3.1;
-        source = named_use _ _ p4.1;
+        onto = named_use _ p2.1;
+        along = named_use _ p3.1;
+        source = named_use _ p4.1;
         body = body_use _ r.body p5.1;
         formula = ltb-true _ _ p6.1;
       }

@@ -1,5 +1,5 @@
 -- What each check asks of a house, place by place.
-use Rattle.std.specs.Prelude.{ℕ, ◌+◌, ◌*◌, Bool, true, false, not, ◌&&◌, ◌||◌, List, [], ◌∷◌, length, ◌==◌, nat_le, nat_lt}
+use Rattle.std.specs.Prelude.{ℕ, ◌+◌, ◌*◌, Bool, true, false, not, ◌&&◌, List, [], ◌∷◌, length, Some, None, Option, ◌==◌, nat_le, nat_lt}
 use Rattle.points.specs.Points.{Points, each_below, implies, void}
 use Rattle.points.specs.Tables.{at_place}
 use Rattle.house.specs.declared.tables.Body.{Body}
@@ -11,6 +11,7 @@ use Rattle.house.specs.declared.tables.Rule.{Rule}
 use Rattle.house.specs.declared.tables.Sizes.{Sizes}
 use Rattle.house.specs.declared.tables.Test.{Test}
 use Rattle.house.specs.Cells.{components, moves}
+use Rattle.house.specs.Kinds.{is_known, names_test, names_first, names_second}
 
 -- one answer of a list of answers
 abbrev pub answer_at : List Bool → ℕ → Bool
@@ -85,14 +86,13 @@ tests_fixed_lem s = at_place false (λ t. nat_lt t.label s.fixed)
 unfoldable pub tests_moving_lem : {S : Type 0} → Sizes → List (Test S) → ℕ → Bool
 tests_moving_lem s = at_place false (λ t. moves s t.label)
 
--- the condition at place i: kind 0 is a test of a fixed label, kinds 1 to 3 name an earlier condition a, and kinds 2
--- and 3 an earlier condition b
+-- the condition at place i: a test is of a fixed label, and the other kinds name earlier conditions
 unfoldable pub condition_kept : {S : Type 0} → Sizes → List (Test S) → ℕ → Condition → Bool
 condition_kept s tests i c =
-    nat_le c.kind 3
-    && implies (c.kind == 0) (tests_fixed_lem s tests c.a)
-    && implies (nat_le 1 c.kind) (nat_lt c.a i)
-    && implies (nat_le 2 c.kind) (nat_lt c.b i)
+    is_known c.kind
+    && implies (names_test c.kind) (tests_fixed_lem s tests c.a)
+    && implies (names_first c.kind) (nat_lt c.a i)
+    && implies (names_second c.kind) (nat_lt c.b i)
 
 -- 6: a condition keeps to its kind
 unfoldable pub condition_passes : {S : Type 0} → Sizes → List (Test S) → List Condition → ℕ → Bool
@@ -110,9 +110,10 @@ constraint_kept s tests k = tests_moving_lem s tests k.head && body_ends_lem (le
 unfoldable pub constraint_passes : {S : Type 0} → Sizes → List (Test S) → List Constraint → ℕ → Bool
 constraint_passes s tests = at_place true (constraint_kept s tests)
 
--- 255 is in the place of a condition, and other numbers name one of n conditions
-abbrev pub names_condition_lem : ℕ → ℕ → Bool
-names_condition_lem n k = k == 255 || nat_lt k n
+-- a rule has no condition here, or one of n
+abbrev pub names_condition_lem : ℕ → Option ℕ → Bool
+names_condition_lem n None = true
+names_condition_lem n (Some k) = nat_lt k n
 
 -- a rule in a house of so many tests and conditions, with so many formulas in its book
 abbrev pub rule_kept : Sizes → ℕ → ℕ → ℕ → Rule → Bool

@@ -1,5 +1,5 @@
 -- What holds of an accepted house, as plain facts of its sizes and of the records read in its tables.
-use Rattle.std.specs.Prelude.{◌≡◌, ℕ, ◌+◌, ◌*◌, ◌<◌, ◌≤◌, true, false, ◌⊎◌, length, Err, ◌≢◌, slice_index_or}
+use Rattle.std.specs.Prelude.{◌≡◌, ℕ, ◌+◌, ◌*◌, ◌<◌, ◌≤◌, true, false, length, Some, None, Option, Err, ◌≢◌, slice_index_or}
 use Rattle.points.specs.Points.{Points, void}
 use Rattle.points.specs.Tables.{Every}
 use Rattle.examining.specs.declared.defects.Defect.{Defect}
@@ -12,6 +12,7 @@ use Rattle.house.specs.declared.tables.Rule.{Rule}
 use Rattle.house.specs.declared.tables.Sizes.{Sizes}
 use Rattle.house.specs.declared.tables.Test.{Test}
 use Rattle.house.specs.Cells.{components, moves}
+use Rattle.house.specs.Kinds.{is_known, names_test, names_first, names_second}
 use Rattle.examining.specs.Defects.{number_of, place_of}
 use Rattle.examining.specs.Examine.{Accepted, Examined}
 
@@ -37,16 +38,17 @@ MovingTest {S} h a = (a < length h.tests.now) × ((t : Test S) → t ≡ slice_i
 abbrev pub BodyEnds : {S : Type 0} → House S → Body → Type 0
 BodyEnds h b = b.first + b.count ≤ length h.tests.now
 
--- a number in the place of a condition is 255 or names one
-abbrev pub ConditionNamed : {S : Type 0} → House S → ℕ → Type 0
-ConditionNamed h k = (k ≡ 255) ⊎ (k < length h.conditions.now)
+-- a rule's condition, if it has one here, is one of the house's
+abbrev pub ConditionNamed : {S : Type 0} → House S → Option ℕ → Type 0
+ConditionNamed h None = Unit {0}
+ConditionNamed h (Some k) = k < length h.conditions.now
 
 -- the condition at place i keeps to its kind
 pub record LawfulCondition {S : Type 0} (h : House S) (i : ℕ) (c : Condition) : Type 0 where
-  pub kind : c.kind ≤ 3
-  pub test : c.kind ≡ 0 → FixedTest h c.a
-  pub first : 1 ≤ c.kind → c.a < i
-  pub second : 2 ≤ c.kind → c.b < i
+  pub kind : is_known c.kind ≡ true
+  pub test : names_test c.kind ≡ true → FixedTest h c.a
+  pub first : names_first c.kind ≡ true → c.a < i
+  pub second : names_second c.kind ≡ true → c.b < i
 
 -- every part of a constraint is there
 pub record LawfulConstraint {S : Type 0} (h : House S) (k : Constraint) : Type 0 where

@@ -1,20 +1,19 @@
 // The examination of a house: eight checks in order, each over its places from the lowest on. The first place at which
 // a check fails is the answer.
-ghost use Rattle.std.specs.Prelude.{◌≡◌, length};
-ghost use Rattle.examining.specs.Checks.{answer_at, between, edge_passes, names_label_lem, joins_nodes_lem, same_pair, tests_fixed_lem, tests_moving_lem, condition_kept, body_ends_lem, constraint_kept, names_condition_lem, rule_kept};
+ghost use Rattle.std.specs.Prelude.{◌≡◌, ◌&&◌, length, not, position, take};
+ghost use Rattle.std.specs.List.{list_any};
+ghost use Rattle.points.specs.Points.{void};
+ghost use Rattle.examining.specs.Checks.{between, edge_passes, condition_passes, names_label_lem, joins_nodes_lem, same_pair, new_pair, tests_fixed_lem, tests_moving_lem, condition_kept, body_ends_lem, constraint_kept, names_condition_lem, rule_kept};
 ghost use Rattle.examining.specs.Examine.{Found, Lowest, Examined, size_check, table_check, edge_check, fixed_check, test_check, condition_check, constraint_check, rule_check};
 ghost use Rattle.examining.specs.Lawful.{AcceptedLaws};
 
-use super::Defect;
+use super::{Defect, Dimension, TableName, require};
 use book::Book;
-use house::{Body, Condition, Constraint, Edge, House, Rule, Sizes, Test};
+use house::{Body, Condition, Constraint, Edge, House, Kind, Rule, Sizes, Test};
 use scale::Scale;
 
 // The most tests, conditions, constraints or rules.
 const RECORDS: usize = 64;
-
-// In the place of a condition: there is none, and it always holds.
-const NO_CONDITION: u8 = 255;
 
 // Whether a size is at least `low` and at most `high`.
 fn between(low: u16, size: u16, high: u16) -> bool
@@ -23,32 +22,26 @@ fn between(low: u16, size: u16, high: u16) -> bool
     low <= size && size <= high
 }
 
-// The place of the first answer that is no.
-fn first_no(answers: &[bool]) -> Option<usize>
-    ensures { Lowest (length answers.now) (answer_at answers.now) result }
-{
-    for (at, answer) in answers.iter().enumerate() {
-        if !*answer {
-            return Some(at);
-        }
-    }
-    None
-}
-
 // Whether the sizes are within their limits: nodes 1 to 200, edges up to 600, fixed labels up to 16, moving labels 1 to
 // 8, and the last hour up to 63.
 pub fn check_sizes(sizes: Sizes) -> Result<(), Defect>
     ensures { Found (size_check sizes) result }
 {
-    let nodes = between(1, sizes.nodes, 200);
-    let edges = between(0, sizes.edges, 600);
-    let fixed = between(0, sizes.fixed as u16, 16);
-    let moving = between(1, sizes.moving as u16, 8);
-    let last = between(0, sizes.last as u16, 63);
-    match first_no(&[nodes, edges, fixed, moving, last]) {
-        Some(which) => Err(Defect::Size { which }),
-        None => Ok(()),
-    }
+    require(between(1, sizes.nodes, 200), Defect::Size(Dimension::Nodes))?;
+    require(between(0, sizes.edges, 600), Defect::Size(Dimension::Edges))?;
+    require(
+        between(0, sizes.fixed as u16, 16),
+        Defect::Size(Dimension::FixedLabels),
+    )?;
+    require(
+        between(1, sizes.moving as u16, 8),
+        Defect::Size(Dimension::MovingLabels),
+    )?;
+    require(
+        between(0, sizes.last as u16, 63),
+        Defect::Size(Dimension::LastHour),
+    )?;
+    Ok(())
 }
 
 // Whether the tables have the right lengths: as many edges as the sizes say, a bound for each fixed label of each
@@ -58,14 +51,25 @@ fn check_tables<S: Scale>(house: &House<S>) -> Result<(), Defect>
 {
     let edges = house.edges.len() == house.sizes.edges as usize;
     let fixed = house.fixed.len() == house.sizes.components() * house.sizes.fixed as usize;
-    let tests = house.tests.len() <= RECORDS;
-    let conditions = house.conditions.len() <= RECORDS;
-    let constraints = house.constraints.len() <= RECORDS;
-    let rules = house.rules.len() <= RECORDS;
-    match first_no(&[edges, fixed, tests, conditions, constraints, rules]) {
-        Some(which) => Err(Defect::Table { which }),
-        None => Ok(()),
-    }
+    require(edges, Defect::Table(TableName::Edges))?;
+    require(fixed, Defect::Table(TableName::FixedBounds))?;
+    require(
+        house.tests.len() <= RECORDS,
+        Defect::Table(TableName::Tests),
+    )?;
+    require(
+        house.conditions.len() <= RECORDS,
+        Defect::Table(TableName::Conditions),
+    )?;
+    require(
+        house.constraints.len() <= RECORDS,
+        Defect::Table(TableName::Constraints),
+    )?;
+    require(
+        house.rules.len() <= RECORDS,
+        Defect::Table(TableName::Rules),
+    )?;
+    Ok(())
 }
 
 // Whether an edge leads from a node to a node.
@@ -75,31 +79,30 @@ fn joins_nodes(sizes: Sizes, edge: Edge) -> bool
     edge.from < sizes.nodes && edge.to < sizes.nodes
 }
 
-// Whether two edges have the same pair of ends. The order counts: (0, 1) and (1, 0) differ.
-fn same_pair(one: Edge, other: Edge) -> bool
-    ensures { result ≡ same_pair one other }
+// Whether an edge before a place has the same pair of ends. The order of the ends counts: (0, 1) and (1, 0) differ.
+fn repeats(edges: &[Edge], at: usize, edge: Edge) -> bool
+    ensures { result ≡ list_any (λ earlier. same_pair earlier edge) (take at edges.now) }
 {
-    one.from == other.from && one.to == other.to
+    edges.iter().take(at).any(|earlier| *earlier == edge)
+}
+
+// Whether the edge at a place leads from a node to a node, and no edge before it has the same pair of ends.
+fn edge_stands(sizes: Sizes, edges: &[Edge], at: usize, edge: Edge) -> bool
+    ensures { result ≡ (joins_nodes_lem sizes edge && new_pair edges.now at edge) }
+{
+    joins_nodes(sizes, edge) && !repeats(edges, at, edge)
 }
 
 // The lowest edge that names no node, or repeats the pair of an edge before it.
 fn bad_edge(sizes: Sizes, edges: &[Edge]) -> Option<usize>
     ensures { Lowest (length edges.now) (edge_passes sizes edges.now) result }
 {
-    let bad = 'search: {
-        for i in 0..edges.len() {
-            if !joins_nodes(sizes, edges[i]) {
-                break 'search Some(i);
-            }
-            for j in 0..i {
-                if same_pair(edges[j], edges[i]) {
-                    break 'search Some(i);
-                }
-            }
+    for (at, edge) in edges.iter().enumerate() {
+        if !edge_stands(sizes, edges, at, *edge) {
+            return Some(at);
         }
-        None
-    };
-    bad
+    }
+    None
 }
 
 // Whether every edge leads from a node to a node and has a pair of its own.
@@ -112,16 +115,21 @@ fn check_edges(sizes: Sizes, edges: &[Edge]) -> Result<(), Defect>
     }
 }
 
+// The lowest fixed bound that is void.
+fn bad_fixed<S: Scale>(fixed: &[S]) -> Option<usize>
+    ensures { result ≡ position (λ bound. void S.Scale.size (S.Scale.has bound)) fixed.now }
+{
+    fixed.iter().position(|bound| bound.void())
+}
+
 // Whether no fixed bound is void.
 fn check_fixed<S: Scale>(fixed: &[S]) -> Result<(), Defect>
     ensures { Found (fixed_check S.Scale.size S.Scale.has fixed.now) result }
 {
-    for (at, bound) in fixed.iter().enumerate() {
-        if bound.void() {
-            return Err(Defect::Fixed { at });
-        }
+    match bad_fixed(fixed) {
+        Some(at) => Err(Defect::Fixed { at }),
+        None => Ok(()),
     }
-    Ok(())
 }
 
 // Whether a label is fixed or moves.
@@ -131,47 +139,74 @@ fn names_label(sizes: Sizes, label: u8) -> bool
     (label as u16) < sizes.fixed as u16 + sizes.moving as u16
 }
 
+// The lowest test that is of no label.
+fn bad_test<S: Scale>(sizes: Sizes, tests: &[Test<S>]) -> Option<usize>
+    ensures { result ≡ position (λ test. not (names_label_lem sizes test.label)) tests.now }
+{
+    tests
+        .iter()
+        .position(|test| !names_label(sizes, test.label))
+}
+
 // Whether every test is of a label. Its bound may be void.
 fn check_tests<S: Scale>(sizes: Sizes, tests: &[Test<S>]) -> Result<(), Defect>
     ensures { Found (test_check sizes tests.now) result }
 {
-    for (at, test) in tests.iter().enumerate() {
-        if !names_label(sizes, test.label) {
-            return Err(Defect::Test { at });
-        }
+    match bad_test(sizes, tests) {
+        Some(at) => Err(Defect::Test { at }),
+        None => Ok(()),
     }
-    Ok(())
 }
 
 // Whether there is a test of this number, and its label is fixed.
 fn tests_fixed<S: Scale>(sizes: Sizes, tests: &[Test<S>], which: u8) -> bool
     ensures { result ≡ tests_fixed_lem sizes tests.now which }
 {
-    let which = which as usize;
-    which < tests.len() && tests[which].label < sizes.fixed
+    match tests.get(which as usize) {
+        Some(test) => test.label < sizes.fixed,
+        None => false,
+    }
 }
 
 // Whether there is a test of this number, and its label moves.
 fn tests_moving<S: Scale>(sizes: Sizes, tests: &[Test<S>], which: u8) -> bool
     ensures { result ≡ tests_moving_lem sizes tests.now which }
 {
-    let which = which as usize;
-    which < tests.len() && sizes.moves(tests[which].label)
+    match tests.get(which as usize) {
+        Some(test) => sizes.moves(test.label),
+        None => false,
+    }
 }
 
-// Whether a condition keeps to its kind, with `at` conditions before it: kind 0 is a test of a fixed label, 1 names an
-// earlier condition, 2 and 3 name two. Kinds 0 and 1 ignore b.
+// Whether a condition keeps to its kind, with `at` conditions before it: a test is of a fixed label, and the other kinds
+// name earlier conditions.
 fn keeps_kind<S: Scale>(sizes: Sizes, tests: &[Test<S>], at: usize, condition: Condition) -> bool
     ensures { result ≡ condition_kept sizes tests.now at condition }
 {
     let a = (condition.a as usize) < at;
     let b = (condition.b as usize) < at;
     match condition.kind {
-        0 => tests_fixed(sizes, tests, condition.a),
-        1 => a,
-        2 | 3 => a && b,
-        _ => false,
+        Kind::Test => tests_fixed(sizes, tests, condition.a),
+        Kind::Not => a,
+        Kind::Both | Kind::Either => a && b,
+        Kind::Unknown(_) => false,
     }
+}
+
+// The lowest condition that does not keep to its kind.
+fn bad_condition<S: Scale>(
+    sizes: Sizes,
+    tests: &[Test<S>],
+    conditions: &[Condition],
+) -> Option<usize>
+    ensures { Lowest (length conditions.now) (condition_passes sizes tests.now conditions.now) result }
+{
+    for (at, condition) in conditions.iter().enumerate() {
+        if !keeps_kind(sizes, tests, at, *condition) {
+            return Some(at);
+        }
+    }
+    None
 }
 
 // Whether every condition keeps to its kind.
@@ -182,12 +217,10 @@ fn check_conditions<S: Scale>(
 ) -> Result<(), Defect>
     ensures { Found (condition_check sizes tests.now conditions.now) result }
 {
-    for (at, condition) in conditions.iter().enumerate() {
-        if !keeps_kind(sizes, tests, at, *condition) {
-            return Err(Defect::Condition { at });
-        }
+    match bad_condition(sizes, tests, conditions) {
+        Some(at) => Err(Defect::Condition { at }),
+        None => Ok(()),
     }
-    Ok(())
 }
 
 // Whether a body ends among so many tests. An empty one begins there too.
@@ -204,6 +237,19 @@ fn has_parts<S: Scale>(sizes: Sizes, tests: &[Test<S>], constraint: Constraint) 
     tests_moving(sizes, tests, constraint.head) && body_ends(tests.len(), constraint.body)
 }
 
+// The lowest constraint of which a part is not there.
+fn bad_constraint<S: Scale>(
+    sizes: Sizes,
+    tests: &[Test<S>],
+    constraints: &[Constraint],
+) -> Option<usize>
+    ensures { result ≡ position (λ constraint. not (constraint_kept sizes tests.now constraint)) constraints.now }
+{
+    constraints
+        .iter()
+        .position(|constraint| !has_parts(sizes, tests, *constraint))
+}
+
 // Whether every part of every constraint is there.
 fn check_constraints<S: Scale>(
     sizes: Sizes,
@@ -212,19 +258,17 @@ fn check_constraints<S: Scale>(
 ) -> Result<(), Defect>
     ensures { Found (constraint_check sizes tests.now constraints.now) result }
 {
-    for (at, constraint) in constraints.iter().enumerate() {
-        if !has_parts(sizes, tests, *constraint) {
-            return Err(Defect::Constraint { at });
-        }
+    match bad_constraint(sizes, tests, constraints) {
+        Some(at) => Err(Defect::Constraint { at }),
+        None => Ok(()),
     }
-    Ok(())
 }
 
-// Whether a number is one of so many conditions, or is in the place of one.
-fn names_condition(conditions: usize, number: u8) -> bool
-    ensures { result ≡ names_condition_lem conditions number }
+// Whether a rule's condition is one of so many, if it has one.
+fn names_condition(conditions: usize, condition: Option<u8>) -> bool
+    ensures { result ≡ names_condition_lem conditions condition }
 {
-    number == NO_CONDITION || (number as usize) < conditions
+    condition.is_none_or(|number| (number as usize) < conditions)
 }
 
 // Whether every part of a rule is in its range: its target moves, its delay is 1 to 63, its conditions, its body and
@@ -242,6 +286,19 @@ fn in_range(sizes: Sizes, tests: usize, conditions: usize, formulas: u16, rule: 
     target && delay && onto && along && source && body && formula
 }
 
+// The lowest rule of which a part is outside its range.
+fn bad_rule(
+    sizes: Sizes,
+    tests: usize,
+    conditions: usize,
+    formulas: u16,
+    rules: &[Rule],
+) -> Option<usize>
+    ensures { result ≡ position (λ rule. not (rule_kept sizes tests conditions formulas rule)) rules.now }
+{
+    rules.iter().position(|rule| !in_range(sizes, tests, conditions, formulas, *rule))
+}
+
 // Whether every part of every rule is in its range.
 fn check_rules(
     sizes: Sizes,
@@ -252,12 +309,10 @@ fn check_rules(
 ) -> Result<(), Defect>
     ensures { Found (rule_check sizes tests conditions formulas rules.now) result }
 {
-    for (at, rule) in rules.iter().enumerate() {
-        if !in_range(sizes, tests, conditions, formulas, *rule) {
-            return Err(Defect::Rule { at });
-        }
+    match bad_rule(sizes, tests, conditions, formulas, rules) {
+        Some(at) => Err(Defect::Rule { at }),
+        None => Ok(()),
     }
-    Ok(())
 }
 
 // Whether the tables make a house, with this book of formulas. If not, the first check that fails, at its lowest place.
@@ -284,8 +339,6 @@ pub fn examine<S: Scale, B: Book<S>>(house: &House<S>, book: &B) -> Result<(), D
 
 // Holds what the examination says of a house: an accepted one keeps the laws, and a refused one has one refusal and is
 // not accepted. It does nothing when run.
-pub fn accepted_laws_stand<S: Scale>() -> u8
+pub fn accepted_laws_stand<S: Scale>()
     ensures { AcceptedLaws S.Scale.size S.Scale.has }
-{
-    0
-}
+{}

@@ -5,4 +5,4 @@ mod checks;
 mod defects;
 
 pub use checks::{accepted_laws_stand, check_sizes, examine};
-pub use defects::Defect;
+pub use defects::{Defect, Dimension, TableName, require};

@@ -1,12 +1,12 @@
-use Rattle.std.proofs.Common.{true, sym, refl, ◌∙◌, below_more}
-use Rattle.points.proofs.Tabled.{at-get_or}
+use Rattle.std.proofs.Common.{sym, refl, ◌∙◌}
 use Rattle.examining.specs.Checks.{constraint_passes}
+use Rattle.examining.proofs.Lowest.{lowest_position}
 use Rattle.examining.proofs.checks.check_constraints.Goals as goal
 
-pub returns-then-not-has_parts : goal.returns-then-not-has_parts
+pub returns-in-Some : goal.returns-in-Some
 unfolding constraint_passes
-returns-then-not-has_parts g c = (refl, (c.loop-at-test.true, at-get_or true _ _ _ _ c.loop-at-test.true ∙ sym c.if-not-has_parts.ensures, c.loop-at.invariant))
+returns-in-Some g c = (refl, lowest_position _ _ (λ x. refl) c.args.constraints.now _ (sym c.in-Some.is ∙ c.bad_constraint.ensures))
 
-pub loop-at-preserved : goal.loop-at-preserved
+pub returns-in-None : goal.returns-in-None
 unfolding constraint_passes
-loop-at-preserved g c = below_more _ _ c.loop-at.invariant (at-get_or true _ _ _ _ c.loop-at-test.true ∙ sym c.if-not-has_parts.ensures)
+returns-in-None g c = lowest_position _ _ (λ x. refl) c.args.constraints.now _ (sym c.in-None.is ∙ c.bad_constraint.ensures)

@@ -1,18 +1,12 @@
-use Rattle.std.proofs.Common.{true, sym, refl, ◌∙◌, below_more}
-use Rattle.std.proofs.lemmas.Bool.{not_from_true, not_from_false}
-use Rattle.points.proofs.Tabled.{at_read}
+use Rattle.std.proofs.Common.{sym, refl, ◌∙◌, arith}
 use Rattle.examining.specs.Checks.{fixed_passes}
+use Rattle.examining.proofs.Lowest.{lowest_position}
 use Rattle.examining.proofs.checks.check_fixed.Goals as goal
 
-pub returns-then-void : goal.returns-then-void
+pub returns-in-Some : goal.returns-in-Some
 unfolding fixed_passes
-returns-then-void g c = (
-  refl,
-  (c.loop-at-test.true, at_read true _ _ _ _ c.loop-at-test.true c.index-fixed-at.is ∙ not_from_true _ (sym c.if-void.ensures), c.loop-at.invariant),
-)
+returns-in-Some g c = (refl, lowest_position _ _ (λ x. grind arith) c.args.fixed.now _ (sym c.in-Some.is ∙ c.bad_fixed.ensures))
 
-pub loop-at-preserved : goal.loop-at-preserved
+pub returns-in-None : goal.returns-in-None
 unfolding fixed_passes
-loop-at-preserved g c =
-    below_more _ _ c.loop-at.invariant
-    (at_read true _ _ _ _ c.loop-at-test.true c.index-fixed-at.is ∙ not_from_false _ (sym c.if-void.ensures))
+returns-in-None g c = lowest_position _ _ (λ x. grind arith) c.args.fixed.now _ (sym c.in-None.is ∙ c.bad_fixed.ensures)

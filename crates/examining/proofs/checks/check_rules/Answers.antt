@@ -1,12 +1,12 @@
-use Rattle.std.proofs.Common.{true, sym, refl, ◌∙◌, below_more}
-use Rattle.points.proofs.Tabled.{at-get_or}
+use Rattle.std.proofs.Common.{sym, refl, ◌∙◌}
 use Rattle.examining.specs.Checks.{rule_passes}
+use Rattle.examining.proofs.Lowest.{lowest_position}
 use Rattle.examining.proofs.checks.check_rules.Goals as goal
 
-pub returns-then-not-in_range : goal.returns-then-not-in_range
+pub returns-in-Some : goal.returns-in-Some
 unfolding rule_passes
-returns-then-not-in_range c = (refl, (c.loop-at-test.true, at-get_or true _ _ _ _ c.loop-at-test.true ∙ sym c.if-not-in_range.ensures, c.loop-at.invariant))
+returns-in-Some c = (refl, lowest_position _ _ (λ x. refl) c.args.rules.now _ (sym c.in-Some.is ∙ c.bad_rule.ensures))
 
-pub loop-at-preserved : goal.loop-at-preserved
+pub returns-in-None : goal.returns-in-None
 unfolding rule_passes
-loop-at-preserved c = below_more _ _ c.loop-at.invariant (at-get_or true _ _ _ _ c.loop-at-test.true ∙ sym c.if-not-in_range.ensures)
+returns-in-None c = lowest_position _ _ (λ x. refl) c.args.rules.now _ (sym c.in-None.is ∙ c.bad_rule.ensures)

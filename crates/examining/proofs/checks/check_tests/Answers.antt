@@ -1,12 +1,12 @@
-use Rattle.std.proofs.Common.{true, sym, refl, ◌∙◌, below_more}
-use Rattle.points.proofs.Tabled.{at_read}
+use Rattle.std.proofs.Common.{sym, refl, ◌∙◌}
 use Rattle.examining.specs.Checks.{test_passes}
+use Rattle.examining.proofs.Lowest.{lowest_position}
 use Rattle.examining.proofs.checks.check_tests.Goals as goal
 
-pub returns-then-not-names_label : goal.returns-then-not-names_label
+pub returns-in-Some : goal.returns-in-Some
 unfolding test_passes
-returns-then-not-names_label g c = (refl, (c.loop-at-test.true, at_read true _ _ _ _ c.loop-at-test.true c.index-tests-at.is ∙ sym c.if-not-names_label.ensures, c.loop-at.invariant))
+returns-in-Some g c = (refl, lowest_position _ _ (λ x. refl) c.args.tests.now _ (sym c.in-Some.is ∙ c.bad_test.ensures))
 
-pub loop-at-preserved : goal.loop-at-preserved
+pub returns-in-None : goal.returns-in-None
 unfolding test_passes
-loop-at-preserved g c = below_more _ _ c.loop-at.invariant (at_read true _ _ _ _ c.loop-at-test.true c.index-tests-at.is ∙ sym c.if-not-names_label.ensures)
+returns-in-None g c = lowest_position _ _ (λ x. refl) c.args.tests.now _ (sym c.in-None.is ∙ c.bad_test.ensures)

@@ -3,13 +3,13 @@ use Rattle.points.specs.Points.{implies}
 use Rattle.examining.specs.Checks.{condition_kept}
 use Rattle.examining.proofs.checks.keeps_kind.Goals as goal
 
-pub returns-in-0 : goal.returns-in-0
+pub returns-in-Test : goal.returns-in-Test
 unfolding condition_kept implies
-returns-in-0 g c = search rules
+returns-in-Test g c = search rules
 
-pub returns-in-1 : goal.returns-in-1
+pub returns-in-Not : goal.returns-in-Not
 unfolding condition_kept implies
-returns-in-1 g c = search rules
+returns-in-Not g c = search rules
 
 pub returns-then-a : goal.returns-then-a
 unfolding condition_kept implies
@@ -19,6 +19,6 @@ pub returns-else-a : goal.returns-else-a
 unfolding condition_kept implies
 returns-else-a g c = search rules
 
-pub returns-in_default : goal.returns-in_default
+pub returns-in-Unknown : goal.returns-in-Unknown
 unfolding condition_kept implies
-returns-in_default g c = search rules
+returns-in-Unknown g c = search rules
