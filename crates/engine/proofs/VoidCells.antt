@@ -6,11 +6,11 @@ use Rattle.points.specs.Points.{Points, void, each_below}
 use Rattle.points.proofs.Decided.{void_decides}
 use Rattle.points.proofs.Tabled.{at_read}
 use Rattle.house.specs.declared.tables.Sizes.{Sizes}
+use Rattle.house.specs.declared.tables.Cell.{Cell}
 use Rattle.house.specs.Cells.{inside, place, cell_count}
 use Rattle.house.proofs.Places.{inside_use, inside_from, place_lt, cell_at, place_at, hour_at, component_at, label_at}
 use Rattle.fitting.specs.Course.{course_of}
 use Rattle.writes.specs.Written.{Whole}
-use Rattle.engine.specs.declared.voids.Cell.{Cell}
 use Rattle.engine.specs.Voids.{CellAt, FirstVoid}
 
 -- what is not void has a point

@@ -3,9 +3,9 @@ use Rattle.std.specs.Prelude.{◌≡◌, ℕ, ◌+◌, ◌<◌, ◌≤◌, true,
 use Rattle.points.specs.Points.{Points, Loose}
 use Rattle.points.specs.Tables.{Every}
 use Rattle.house.specs.declared.tables.Sizes.{Sizes}
+use Rattle.house.specs.declared.tables.Cell.{Cell}
 use Rattle.house.specs.Cells.{components, inside, place, cell_count}
 use Rattle.fitting.specs.Course.{Course, VoidFree}
-use Rattle.engine.specs.declared.voids.Cell.{Cell}
 
 -- every bound of a list is loose, on a scale of n points
 abbrev pub AllLoose : {S : Type 0} → ℕ → (S → Points) → List S → Type 0

@@ -8,7 +8,7 @@ ghost use Rattle.engine.specs.Pressed.{on_those};
 ghost use Rattle.engine.specs.Constrained.{Elsewhere, fires, spent_count, Resting, Constrained};
 
 use super::components;
-use house::{Constraint, House};
+use house::{Cell, Constraint, House};
 use judge::body_met;
 use scale::Scale;
 use writes::tighten;
@@ -67,5 +67,10 @@ fn apply<S: Scale>(
         return false;
     }
     let head = house.tests[at];
-    tighten(house.sizes, cells, hour, component, head.label, head.bound)
+    let cell = Cell {
+        hour,
+        component,
+        label: head.label,
+    };
+    tighten(house.sizes, cells, cell, head.bound)
 }

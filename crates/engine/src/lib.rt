@@ -25,7 +25,7 @@ use judge::Verdicts;
 use rules::apply_rules;
 use scale::Scale;
 use start::start_hour;
-pub use voids::{Cell, first_void, loosen};
+pub use voids::{first_void, loosen};
 use writes::lay_facts;
 
 // The most components that a house can have.

@@ -8,7 +8,7 @@ ghost use Rattle.engine.specs.Ready.{Ready};
 ghost use Rattle.engine.specs.Pressed.{on_those, rules_grant};
 
 use book::Book;
-use house::{House, Rule};
+use house::{Cell, House, Rule};
 use judge::{Verdicts, held_on, neighbours};
 use scale::Scale;
 use writes::narrow_cell;
@@ -74,5 +74,10 @@ fn press<S: Scale, B: Book<S>>(
         return;
     }
     let bound = book.answer(rule.formula as u16, count.qualifying, count.eligible);
-    narrow_cell(house.sizes, cells, hour, node, rule.target, bound);
+    let cell = Cell {
+        hour,
+        component: node,
+        label: rule.target,
+    };
+    narrow_cell(house.sizes, cells, cell, bound);
 }

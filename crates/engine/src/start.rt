@@ -6,7 +6,7 @@ ghost use Rattle.writes.specs.Written.{Whole, Freed};
 ghost use Rattle.engine.specs.Started.{touches, ruled, Started};
 
 use super::voids::loosen;
-use house::{Fact, House, Rule};
+use house::{Cell, Fact, House, Rule};
 use judge::{Verdicts, held_on};
 use scale::Scale;
 use writes::{free_cell, free_facts, repeat_hour};
@@ -57,7 +57,12 @@ fn free_rule<S: Scale>(
     }
     for node in 0..house.sizes.nodes {
         if held_on(verdicts, rule.onto, node as usize) {
-            free_cell(house.sizes, cells, hour, node, rule.target);
+            let cell = Cell {
+                hour,
+                component: node,
+                label: rule.target,
+            };
+            free_cell(house.sizes, cells, cell);
         }
     }
 }

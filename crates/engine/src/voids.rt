@@ -3,16 +3,8 @@ ghost use Rattle.fitting.specs.Course.{course_of};
 ghost use Rattle.writes.specs.Written.{Whole};
 ghost use Rattle.engine.specs.Voids.{AllLoose, Numbered, CellAt, FirstVoid};
 
-use house::Sizes;
+use house::{Cell, Sizes};
 use scale::Scale;
-
-// A cell of a course, by its name.
-#[derive(Clone, Copy)]
-pub struct Cell {
-    pub hour: u8,
-    pub component: u16,
-    pub label: u8,
-}
 
 // Makes every cell loose.
 pub fn loosen<S: Scale>(course: &mut [S])

@@ -1,5 +1,5 @@
 -- Neighbours counted by edges, and that these are the nodes counted. Assumes nothing.
-use Rattle.std.proofs.Common.{◌≡◌, ℕ, zero, suc, ◌+◌, ◌-◌, ◌<◌, ◌≤◌, min, Bool, true, false, ◌&&◌, ◌||◌, eqb, List, [], ◌∷◌, length, get_or, sym, refl, ap, ◌∙◌, ⊎_elim, add-one, arith}
+use Rattle.std.proofs.Common.{◌≡◌, ℕ, zero, suc, ◌+◌, ◌-◌, ◌<◌, ◌≤◌, min, Bool, true, false, ◌&&◌, eqb, List, [], ◌∷◌, length, get_or, Some, None, Option, sym, refl, ap, ◌∙◌, ⊎_elim, add-one, arith}
 use Rattle.std.proofs.lemmas.List.{get_or_past}
 use Rattle.std.proofs.lemmas.Bool.{cases_lt, eq-eqb, ne_eqb}
 use Rattle.points.specs.Points.{Points, count_below}
@@ -19,7 +19,7 @@ use Rattle.fitting.specs.Neighbours.{eligibles, qualified}
 use Rattle.fitting.proofs.ByEdges.{eligibles_by_edges, qualified_by_edges}
 use Rattle.fitting.proofs.Narrow.{eligibles_le, qualified_le}
 use Rattle.judge.specs.declared.verdicts.Verdicts.{Verdicts}
-use Rattle.judge.specs.Judged.{held_by, held_on_lem, feeds, AllJudged, Countable}
+use Rattle.judge.specs.Judged.{held_by, held_on_lem, feeds, Judges, AllJudged, Countable}
 use Rattle.judge.proofs.Verdict.{said_later}
 
 -- the body is met on the node that edge e leaves
@@ -106,17 +106,25 @@ regroup false q o m = refl
 
 module _ {S : Type 0} (n : ℕ) (has : S → Points) (h : House S) (ready : Countable n has h) (vs : List Verdicts) (all : AllJudged n has h vs) where
   -- what the verdicts say is what holds
-  pub held_holds : (k c : ℕ) → c < components h.sizes → held_on_lem vs k c ≡ holds n has h k c
+  pub held_holds : (k : Option ℕ) (c : ℕ) → c < components h.sizes → held_on_lem vs k c ≡ holds n has h k c
   unfolding held_on_lem held_by holds
-  held_holds k c l =
-      let none : Verdicts = record { said = [] } in
-      let here : c < length vs = omega (arith, all.enough) in
-      let judged = all.judges c l (get_or vs c none) (read_again vs c none here) in
-      at-get_or false (held_by k) vs c none here
-      ∙ ap (λ b. eqb k 255 || b)
-      (⊎_elim (λ few. judged.each k few)
-      (λ many. get_or_past _ k false (rw judged.sixty_four many) ∙ sym (said_later n has h c _ k (omega (arith, ready.few_conditions))))
-      (cases_lt k 64))
+  held_holds k c l = at-get_or false (held_by k) vs c none here ∙ by k
+    where
+      none : Verdicts
+      none = record { said = [] }
+
+      here : c < length vs
+      here = omega (arith, all.enough)
+
+      judged : Judges n has h c (get_or vs c none)
+      judged = all.judges c l (get_or vs c none) (read_again vs c none here)
+
+      by : (k' : Option ℕ) → held_by k' (get_or vs c none) ≡ holds n has h k' c
+      by None = refl
+      by (Some i) =
+          ⊎_elim (judged.each i)
+          (λ many. get_or_past _ i false (rw judged.sixty_four many) ∙ sym (said_later n has h c _ i (omega (arith, ready.few_conditions))))
+          (cases_lt i 64)
 
   from_node : (e : ℕ) → e < length h.edges.now → (edge_at h.edges.now e).from < components h.sizes
   from_node e l = omega (arith, ready.graph.from_node e l)

@@ -1,5 +1,5 @@
 -- The verdicts on a component, worked out one after the other. Assumes nothing.
-use Rattle.std.proofs.Common.{◌≡◌, ℕ, zero, suc, ◌+◌, ◌<◌, ◌≤◌, min, Bool, false, eqb, List, [], ◌∷◌, length, get_or, set, replicate, sym, refl, ap, ◌∙◌, ⊎_elim, add-one, arith, length-set, get_or-set_other, get_or-set_same}
+use Rattle.std.proofs.Common.{◌≡◌, ℕ, zero, suc, ◌+◌, ◌<◌, ◌≤◌, min, Bool, false, eqb, List, [], ◌∷◌, length, get_or, set, Option, replicate, sym, refl, ap, ◌∙◌, ⊎_elim, add-one, arith, length-set, get_or-set_other, get_or-set_same}
 use Rattle.std.proofs.lemmas.Bool.{cases_eq, cases_lt, ne_eqb, cond-false}
 use Rattle.std.proofs.lemmas.List.{get_or_past, get_or-replicate, length-replicate}
 use Rattle.points.specs.Points.{Points}
@@ -11,11 +11,11 @@ use Rattle.fitting.proofs.Said.{verdict_same, said_here, said_before, said_stays
 use Rattle.judge.specs.declared.verdicts.Verdicts.{Verdicts}
 use Rattle.judge.specs.Judged.{held_by, held_on_lem}
 
-pub held_read : (vs : List Verdicts) (k c : ℕ) (d : Verdicts) (r : Bool) → c < length vs → r ≡ held_by k (get_or vs c d) → r ≡ held_on_lem vs k c
+pub held_read : (vs : List Verdicts) (k : Option ℕ) (c : ℕ) (d : Verdicts) (r : Bool) → c < length vs → r ≡ held_by k (get_or vs c d) → r ≡ held_on_lem vs k c
 unfolding held_on_lem
 held_read vs k c d r l e = e ∙ sym (at-get_or false (held_by k) vs c d l)
 
-pub held_none : (vs : List Verdicts) (k c : ℕ) → length vs ≤ c → false ≡ held_on_lem vs k c
+pub held_none : (vs : List Verdicts) (k : Option ℕ) (c : ℕ) → length vs ≤ c → false ≡ held_on_lem vs k c
 unfolding held_on_lem
 held_none vs k c l = sym (at_else false (held_by k) vs c l)
 

@@ -1,5 +1,5 @@
 -- What the code that judges tests, conditions and neighbours answers.
-use Rattle.std.specs.Prelude.{◌≡◌, ℕ, ◌+◌, ◌<◌, ◌≤◌, Bool, false, ◌&&◌, ◌||◌, List, length, Some, None, Option, ◌==◌, slice_index_or}
+use Rattle.std.specs.Prelude.{◌≡◌, ℕ, ◌+◌, ◌<◌, ◌≤◌, Bool, true, false, ◌&&◌, List, length, Some, None, Option, ◌==◌, slice_index_or}
 use Rattle.points.specs.Points.{Points}
 use Rattle.points.specs.Tables.{at_place}
 use Rattle.house.specs.declared.tables.House.{House}
@@ -21,12 +21,13 @@ points_of has None = λ p. false
 unfoldable pub bound_at : {S : Type 0} → (S → Points) → List S → ℕ → Points
 bound_at has bounds i p = at_place false (λ b. has b p) bounds i
 
--- what verdicts on a component say of a condition; 255 in the place of a condition always holds
-unfoldable pub held_by : ℕ → Verdicts → Bool
-held_by k v = k == 255 || slice_index_or v.said k false
+-- what verdicts on a component say of a condition; where none is named, every one will do
+unfoldable pub held_by : Option ℕ → Verdicts → Bool
+held_by None v = true
+held_by (Some k) v = slice_index_or v.said k false
 
 -- the same of the verdicts on component c, one of those of a list
-unfoldable pub held_on_lem : List Verdicts → ℕ → ℕ → Bool
+unfoldable pub held_on_lem : List Verdicts → Option ℕ → ℕ → Bool
 held_on_lem vs k c = at_place false (held_by k) vs c
 
 -- edge e feeds node v under a rule, by the verdicts: it leads to v, and its node and it meet the rule's conditions

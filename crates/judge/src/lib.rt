@@ -14,7 +14,7 @@ mod counts;
 mod verdicts;
 
 pub use counts::{Count, neighbours};
-use house::{Body, House};
+use house::{Body, Cell, House};
 use scale::Scale;
 pub use verdicts::{Verdicts, held_on};
 
@@ -67,7 +67,11 @@ pub fn seen<S: Scale>(
     if label < house.sizes.fixed {
         return fixed_bound(house, component, label);
     }
-    match house.sizes.place(hour, component, label) {
+    match house.sizes.place(Cell {
+        hour,
+        component,
+        label,
+    }) {
         Some(at) => read(cells, at),
         None => None,
     }

@@ -4,7 +4,7 @@ ghost use Rattle.fitting.specs.Conditions.{fixed_met_lem, verdict};
 ghost use Rattle.judge.specs.Judged.{held_by, held_on_lem, Judges};
 
 use super::{fixed_bound, met_by};
-use house::{Condition, House};
+use house::{Condition, House, Kind};
 use scale::Scale;
 
 // What the first 64 conditions of a house say on one component.
@@ -26,16 +26,20 @@ impl Verdicts {
         Verdicts { said }
     }
 
-    // Whether a condition holds; 255 in the place of a condition always does.
-    pub fn holds(&self, condition: u8) -> bool
+    // Whether a condition holds. Where none is named, every one will do.
+    #[tactic(auto, unfolding(crate::specs::Judged::held_by))]
+    pub fn holds(&self, condition: Option<u8>) -> bool
         ensures { result ≡ held_by condition self.now }
     {
-        condition == 255 || known(&self.said, condition)
+        match condition {
+            Some(number) => known(&self.said, number),
+            None => true,
+        }
     }
 }
 
 // Whether a condition holds on a component, by the verdicts on all components.
-pub fn held_on(verdicts: &[Verdicts], condition: u8, component: usize) -> bool
+pub fn held_on(verdicts: &[Verdicts], condition: Option<u8>, component: usize) -> bool
     ensures { result ≡ held_on_lem verdicts.now condition component }
 {
     component < verdicts.len() && verdicts[component].holds(condition)
@@ -49,16 +53,17 @@ fn known(said: &[bool], condition: u8) -> bool
 }
 
 // What a condition says on a component, where `said` is what the earlier ones say.
+#[tactic(auto, unfolding(fitting::specs::Conditions::verdict))]
 fn judged<S: Scale>(house: &House<S>, component: u16, said: &[bool], condition: Condition) -> bool
     ensures { result ≡ verdict S.Scale.size S.Scale.has house.now component (λ j. slice_index_or said.now j false) condition }
 {
     let first = known(said, condition.a);
     let second = known(said, condition.b);
     match condition.kind {
-        0 => fixed_met(house, component, condition.a as usize),
-        1 => !first,
-        2 => first && second,
-        _ => first || second,
+        Kind::Test => fixed_met(house, component, condition.a as usize),
+        Kind::Not => !first,
+        Kind::Both => first && second,
+        Kind::Either | Kind::Unknown(_) => first || second,
     }
 }
 

@@ -11,21 +11,14 @@ ghost use Rattle.fitting.specs.Course.{course_of};
 ghost use Rattle.fitting.specs.Step.{fact_grants};
 ghost use Rattle.writes.specs.Written.{Whole, Narrowed, on_cell, at_hour, facts_grant, Freed, one_cell, covered, Repeats};
 
-use house::{Fact, Sizes};
+use house::{Cell, Fact, Sizes};
 use scale::Scale;
 
 // Narrows a cell to the points that a bound has too.
-pub fn narrow_cell<S: Scale>(
-    sizes: Sizes,
-    cells: &mut [S],
-    hour: u8,
-    component: u16,
-    label: u8,
-    bound: S,
-)
-    ensures { Narrowed (course_of sizes S.Scale.has cells.old) (on_cell hour component label (S.Scale.has bound)) (course_of sizes S.Scale.has cells.new) }
+pub fn narrow_cell<S: Scale>(sizes: Sizes, cells: &mut [S], cell: Cell, bound: S)
+    ensures { Narrowed (course_of sizes S.Scale.has cells.old) (on_cell cell.hour cell.component cell.label (S.Scale.has bound)) (course_of sizes S.Scale.has cells.new) }
 {
-    if let Some(at) = sizes.place(hour, component, label) {
+    if let Some(at) = sizes.place(cell) {
         if at < cells.len() {
             cells[at] = cells[at].meet(bound);
         }
@@ -33,36 +26,29 @@ pub fn narrow_cell<S: Scale>(
 }
 
 // Narrows a cell unless it is within the bound already, and says whether it did.
-pub fn tighten<S: Scale>(
-    sizes: Sizes,
-    cells: &mut [S],
-    hour: u8,
-    component: u16,
-    label: u8,
-    bound: S,
-) -> bool
-    ensures narrowed { Narrowed (course_of sizes S.Scale.has cells.old) (on_cell hour component label (S.Scale.has bound)) (course_of sizes S.Scale.has cells.new) }
-    ensures tells { result ≡ not (within S.Scale.size (course_of sizes S.Scale.has cells.old hour component label) (S.Scale.has bound)) }
+pub fn tighten<S: Scale>(sizes: Sizes, cells: &mut [S], cell: Cell, bound: S) -> bool
+    ensures narrowed { Narrowed (course_of sizes S.Scale.has cells.old) (on_cell cell.hour cell.component cell.label (S.Scale.has bound)) (course_of sizes S.Scale.has cells.new) }
+    ensures tells { result ≡ not (within S.Scale.size (course_of sizes S.Scale.has cells.old cell.hour cell.component cell.label) (S.Scale.has bound)) }
 {
-    let Some(at) = sizes.place(hour, component, label) else {
+    let Some(at) = sizes.place(cell) else {
         return false;
     };
     if at >= cells.len() {
         return false;
     }
-    let cell = cells[at];
-    if cell.within(bound) {
+    let former = cells[at];
+    if former.within(bound) {
         return false;
     }
-    cells[at] = cell.meet(bound);
+    cells[at] = former.meet(bound);
     true
 }
 
 // Makes a cell loose.
-pub fn free_cell<S: Scale>(sizes: Sizes, cells: &mut [S], hour: u8, component: u16, label: u8)
-    ensures { Whole sizes cells.old → Freed sizes S.Scale.size hour (one_cell component label) (course_of sizes S.Scale.has cells.old) (course_of sizes S.Scale.has cells.new) }
+pub fn free_cell<S: Scale>(sizes: Sizes, cells: &mut [S], cell: Cell)
+    ensures { Whole sizes cells.old → Freed sizes S.Scale.size cell.hour (one_cell cell.component cell.label) (course_of sizes S.Scale.has cells.old) (course_of sizes S.Scale.has cells.new) }
 {
-    if let Some(at) = sizes.place(hour, component, label) {
+    if let Some(at) = sizes.place(cell) {
         if at < cells.len() {
             cells[at] = S::loose();
         }
@@ -74,7 +60,12 @@ pub fn lay_fact<S: Scale>(sizes: Sizes, fact: &Fact<S>, cells: &mut [S], hour: u
     ensures { Narrowed (course_of sizes S.Scale.has cells.old) (at_hour hour (λ t c l p. fact_grants S.Scale.has t c l p fact.now)) (course_of sizes S.Scale.has cells.new) }
 {
     if fact.from <= hour && hour <= fact.to {
-        narrow_cell(sizes, cells, hour, fact.component, fact.label, fact.bound);
+        let cell = Cell {
+            hour,
+            component: fact.component,
+            label: fact.label,
+        };
+        narrow_cell(sizes, cells, cell, fact.bound);
     }
 }
 
@@ -92,7 +83,12 @@ pub fn free_fact<S: Scale>(sizes: Sizes, fact: &Fact<S>, cells: &mut [S], hour: 
     ensures { Whole sizes cells.old → Freed sizes S.Scale.size hour (λ c l. covers hour c l fact.now) (course_of sizes S.Scale.has cells.old) (course_of sizes S.Scale.has cells.new) }
 {
     if fact.from <= hour && hour <= fact.to {
-        free_cell(sizes, cells, hour, fact.component, fact.label);
+        let cell = Cell {
+            hour,
+            component: fact.component,
+            label: fact.label,
+        };
+        free_cell(sizes, cells, cell);
     }
 }
 

@@ -4,12 +4,12 @@ use Rattle.writes.proofs.tighten.Goals as goal
 
 pub returns-in_default : goal.returns-in_default
 returns-in_default g c =
-    let none = cell_none g.S.Scale.has c.args.sizes c.args.cells.now c.args.hour c.args.component c.args.label c.in_default.ensures in
+    let none = cell_none g.S.Scale.has c.args.sizes c.args.cells.now c.args.cell.hour c.args.cell.component c.args.cell.label c.in_default.ensures in
     record { narrowed = void_narrowed _ _ _ _ _ _ _ none; tells = none_tells _ _ _ _ _ _ _ _ none }
 
 pub returns-then-at-cells : goal.returns-then-at-cells
 returns-then-at-cells g c =
-    let none = cell_past g.S.Scale.has c.args.sizes c.args.cells.now c.args.hour c.args.component c.args.label c.in-Some.at c.in-Some.ensures.1 c.if-at-cells.true in
+    let none = cell_past g.S.Scale.has c.args.sizes c.args.cells.now c.args.cell.hour c.args.cell.component c.args.cell.label c.in-Some.at c.in-Some.ensures.1 c.if-at-cells.true in
     record { narrowed = void_narrowed _ _ _ _ _ _ _ none; tells = none_tells _ _ _ _ _ _ _ _ none }
 
 pub returns-then-within : goal.returns-then-within
