@@ -10,9 +10,8 @@ loop-call-init g c = rw c.new-answers.ensures.items (far_none _ _ _ _ _ c.args.f
 pub loop-call-preserved : goal.loop-call-preserved
 loop-call-preserved g c =
     rw c.in_ok-push.ensures.items
-    (far_step g.S.Scale.size g.S.Scale.has c.args.house.now (g.B.Book.formulas c.args.book.now) (g.B.Book.says c.args.book.now)
-    c.args.calls.now c.loop-call.call-index _ _ _ _ _ _ _ _ _ c.call-item.result _ c.loop-call-test.true c.call-item.is c.loop-call.invariant
-    c.step-next.ensures)
+    (far_step _ _ c.args.house.now _ _ c.args.calls.now c.loop-call.call-index _ _ _ _ _ _ _ _ _ c.call-item.result _
+    c.loop-call-test.true c.call-item.is c.loop-call.invariant c.step-next.ensures)
 
 pub returns-in_err-push : goal.returns-in_err-push
 returns-in_err-push g c =
@@ -20,17 +19,13 @@ returns-in_err-push g c =
     rw p.1 (
       c.loop-call.call-index + 1,
       vec_items c.loop-call.answers ++ c.step-next.result.1 ∷ [],
-      far_all g.S.Scale.size g.S.Scale.has c.args.house.now (g.B.Book.formulas c.args.book.now) (g.B.Book.says c.args.book.now)
-          _ _ _ _ _ _ _
-          (far_step g.S.Scale.size g.S.Scale.has c.args.house.now (g.B.Book.formulas c.args.book.now) (g.B.Book.says c.args.book.now)
-          c.args.calls.now c.loop-call.call-index _ _ _ _ _ _ _ _ _ c.call-item.result _ c.loop-call-test.true c.call-item.is c.loop-call.invariant
-          c.step-next.ensures),
+      far_all _ _ c.args.house.now _ _ _ _ _ _ _ _ _
+          (far_step _ _ c.args.house.now _ _ c.args.calls.now c.loop-call.call-index _ _ _ _ _ _ _ _ _ c.call-item.result _
+          c.loop-call-test.true c.call-item.is c.loop-call.invariant c.step-next.ensures),
     )
 
 pub returns : goal.returns
 returns g c =
     let e : take c.loop-call.call-index c.args.calls.now ≡ c.args.calls.now =
     take_all c.loop-call.call-index c.args.calls.now c.loop-call-test.false in
-    far_all g.S.Scale.size g.S.Scale.has c.args.house.now (g.B.Book.formulas c.args.book.now) (g.B.Book.says c.args.book.now)
-    c.args.calls.now (vec_items c.loop-call.answers) c.args.facts.now c.args.course.now c.loop-call.plan c.loop-call.facts c.loop-call.course
-    (rw e at c.loop-call.invariant)
+    far_all _ _ c.args.house.now _ _ c.args.calls.now (vec_items c.loop-call.answers) _ _ _ _ _ (rw e at c.loop-call.invariant)
