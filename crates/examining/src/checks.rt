@@ -1,9 +1,8 @@
 // The examination of a house: eight checks in order, each over its places from the lowest on. The first place at which
 // a check fails is the answer.
-ghost use Rattle.std.specs.Prelude.{◌≡◌, ◌&&◌, length, not, position, take};
-ghost use Rattle.std.specs.List.{list_any};
+ghost use Rattle.std.specs.Prelude.{◌≡◌, length, not, position};
 ghost use Rattle.points.specs.Points.{void};
-ghost use Rattle.examining.specs.Checks.{between, edge_passes, condition_passes, names_label_lem, joins_nodes_lem, same_pair, new_pair, tests_fixed_lem, tests_moving_lem, condition_kept, body_ends_lem, constraint_kept, names_condition_lem, rule_kept};
+ghost use Rattle.examining.specs.Checks.{between, edge_passes, condition_passes, names_label_lem, joins_nodes_lem, tests_fixed_lem, tests_moving_lem, condition_kept, body_ends_lem, constraint_kept, names_condition_lem, rule_kept};
 ghost use Rattle.examining.specs.Examine.{Found, Lowest, Examined, size_check, table_check, edge_check, fixed_check, test_check, condition_check, constraint_check, rule_check};
 ghost use Rattle.examining.specs.Lawful.{AcceptedLaws};
 
@@ -79,30 +78,25 @@ fn joins_nodes(sizes: Sizes, edge: Edge) -> bool
     edge.from < sizes.nodes && edge.to < sizes.nodes
 }
 
-// Whether an edge before a place has the same pair of ends. The order of the ends counts: (0, 1) and (1, 0) differ.
-fn repeats(edges: &[Edge], at: usize, edge: Edge) -> bool
-    ensures { result ≡ list_any (λ earlier. same_pair earlier edge) (take at edges.now) }
-{
-    edges.iter().take(at).any(|earlier| *earlier == edge)
-}
-
-// Whether the edge at a place leads from a node to a node, and no edge before it has the same pair of ends.
-fn edge_stands(sizes: Sizes, edges: &[Edge], at: usize, edge: Edge) -> bool
-    ensures { result ≡ (joins_nodes_lem sizes edge && new_pair edges.now at edge) }
-{
-    joins_nodes(sizes, edge) && !repeats(edges, at, edge)
-}
-
-// The lowest edge that names no node, or repeats the pair of an edge before it.
+// The lowest edge that names no node, or repeats the pair of an edge before it. The order of the ends counts: (0, 1) and
+// (1, 0) differ.
 fn bad_edge(sizes: Sizes, edges: &[Edge]) -> Option<usize>
     ensures { Lowest (length edges.now) (edge_passes sizes edges.now) result }
 {
-    for (at, edge) in edges.iter().enumerate() {
-        if !edge_stands(sizes, edges, at, *edge) {
-            return Some(at);
+    let bad = 'search: {
+        for (at, edge) in edges.iter().enumerate() {
+            if !joins_nodes(sizes, *edge) {
+                break 'search Some(at);
+            }
+            for (before, earlier) in edges[..at].iter().enumerate() {
+                if earlier == edge {
+                    break 'search Some(at);
+                }
+            }
         }
-    }
-    None
+        None
+    };
+    bad
 }
 
 // Whether every edge leads from a node to a node and has a pair of its own.
