@@ -147,7 +147,7 @@ module _ {S : Type 0} (n : ℕ) (has : S → Points) (h : House S) (formulas : �
       rw (w.4, w.5) (record { lies = strike_lies h.sizes room i filed d w.0 s.table t.table w.1 k.lies w.3; long = k.long; rests = tt })
   draft_more d Settle filed s t a q k w = rw (w.3, w.4) (settled_holds filed d s.table s.cells t.cells w.0 k.lies k.long w.2)
   draft_more d Reopen filed s t a q k w = absurd w
-  draft_more d (Look x y l) filed s t a q k w = rw (w.3, q) k
+  draft_more d (Look cell) filed s t a q k w = rw (w.3, q) k
   draft_more d (Entails f) filed s t a q k w = absurd w
 
   pub settled_more : (p : Settled) (c : Call S) (filed : List (Fact S)) (s t : State S) (a : Answer S) → s.plan ≡ Firm p →
@@ -156,5 +156,5 @@ module _ {S : Type 0} (n : ℕ) (has : S → Points) (h : House S) (formulas : �
   settled_more p (Strike i) filed s t a q k w = absurd w
   settled_more p Settle filed s t a q k w = absurd w
   settled_more p Reopen filed s t a q k w = rw (w.3, w.4, w.5) (record { lies = rw w.2 k.lies; long = k.long; rests = tt })
-  settled_more p (Look x y l) filed s t a q k w = rw (w.3, q) k
+  settled_more p (Look cell) filed s t a q k w = rw (w.3, q) k
   settled_more p (Entails f) filed s t a q k w = rw (w.3, q) k

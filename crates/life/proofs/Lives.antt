@@ -3,6 +3,7 @@ use Rattle.std.proofs.Common.{◌≡◌, ℕ, Bool, true, List, [], ◌∷◌, �
 use Rattle.std.proofs.lemmas.Bool.{eq-eqb}
 use Rattle.points.specs.Points.{Points, Iff}
 use Rattle.house.specs.declared.tables.Sizes.{Sizes}
+use Rattle.house.specs.declared.tables.Cell.{Cell}
 use Rattle.house.specs.declared.tables.Fact.{Fact}
 use Rattle.house.specs.declared.tables.House.{House}
 use Rattle.house.specs.Cells.{inside, place, cell_count, fact_inside}
@@ -54,7 +55,7 @@ module _ {S : Type 0} (n : ℕ) (has : S → Points) (h : House S) (formulas : �
   rests_on p (Strike i) s t a never w = absurd w
   rests_on p Settle s t a never w = absurd w
   rests_on p Reopen s t a never w = absurd (never refl)
-  rests_on p (Look x y l) s t a never w = w.3
+  rests_on p (Look cell) s t a never w = w.3
   rests_on p (Entails f) s t a never w = w.3
 
   rests_step : (q : Plan) (p : Settled) (c : Call S) (s t : State S) (a : Answer S) → q ≡ Firm p → (c ≡ Reopen → ⊥) → Does n has h formulas says q c s a t → t ≡ s
@@ -125,20 +126,20 @@ module _ {S : Type 0} (n : ℕ) (has : S → Points) (h : House S) (formulas : �
   firm_at (Firm p) facts s t k w = absurd w
 
   -- look and entails, at a settled state
-  abbrev Saw : List S → ℕ → ℕ → ℕ → Answer S → Type 0
-  Saw cells hour component label a = (x : S) × (a ≡ Seen x) × Stands cells (place h.sizes hour component label) x
+  abbrev Saw : List S → Cell → Answer S → Type 0
+  Saw cells cell a = (x : S) × (a ≡ Seen x) × Stands cells (place h.sizes cell.hour cell.component cell.label) x
 
-  seen : (hour component label : ℕ) (cells : List S) (a : Answer S) (r : Result S Refusal) → length cells ≡ cell_count h.sizes →
-      inside h.sizes hour component label ≡ true → a ≡ told Seen r → LookDoes h.sizes hour component label cells r → Saw cells hour component label a
-  seen hour component label cells a (Ok x) e i q w = (x, q, w.1)
-  seen hour component label cells a (Err r) e i q w =
-      absurd (not_clear (look_checks h.sizes hour component label (length cells)) (number_of r) (place_of r)
+  seen : (cell : Cell) (cells : List S) (a : Answer S) (r : Result S Refusal) → length cells ≡ cell_count h.sizes →
+      inside h.sizes cell.hour cell.component cell.label ≡ true → a ≡ told Seen r → LookDoes h.sizes cell cells r → Saw cells cell a
+  seen cell cells a (Ok x) e i q w = (x, q, w.1)
+  seen cell cells a (Err r) e i q w =
+      absurd (not_clear (look_checks h.sizes cell (length cells)) (number_of r) (place_of r)
       (accepted.0, (once_clear 13 _ (eq-eqb _ _ e), (once_clear 15 _ i, tt))) w)
 
-  seen_at : (p : Plan) (hour component label : ℕ) (s t : State S) (a : Answer S) → length s.cells ≡ cell_count h.sizes →
-      inside h.sizes hour component label ≡ true → Does n has h formulas says p (Look hour component label) s a t → Saw s.cells hour component label a
-  seen_at (Open d) hour component label s t a e i w = seen hour component label s.cells a w.0 e i w.1 w.2
-  seen_at (Firm p) hour component label s t a e i w = seen hour component label s.cells a w.0 e i w.1 w.2
+  seen_at : (p : Plan) (cell : Cell) (s t : State S) (a : Answer S) → length s.cells ≡ cell_count h.sizes →
+      inside h.sizes cell.hour cell.component cell.label ≡ true → Does n has h formulas says p (Look cell) s a t → Saw s.cells cell a
+  seen_at (Open d) cell s t a e i w = seen cell s.cells a w.0 e i w.1 w.2
+  seen_at (Firm p) cell s t a e i w = seen cell s.cells a w.0 e i w.1 w.2
 
   abbrev Tells : List (Fact S) → Fact S → Answer S → Type 0
   Tells facts f a =
@@ -192,9 +193,9 @@ module _ {S : Type 0} (n : ℕ) (has : S → Points) (h : House S) (formulas : �
         let r = settled_there s k life before later last e l in (
           r.0.cells,
           r.1.2,
-          λ between rest hour component label a e2 none i.
-              let u = later_there (then before) r.0 r.1 later between rest (Look hour component label) a last e2 none r.2 in
-              seen_at r.0.plan hour component label r.0 u.0 a r.1.2.long i u.1,
+          λ between rest cell a e2 none i.
+              let u = later_there (then before) r.0 r.1 later between rest (Look cell) a last e2 none r.2 in
+              seen_at r.0.plan cell r.0 u.0 a r.1.2.long i u.1,
         );
     entails = λ before later e between rest f a e2 none i.
         let r = settled_there s k life before later last e l in

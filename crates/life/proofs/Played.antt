@@ -41,7 +41,7 @@ module _ {S : Type 0} (n : ℕ) (has : S → Points) (h : House S) (formulas : �
   on_draft_plays d (Strike i) s t a w = inl (rw w.2 (told_placed _ (λ _. refl) w.1), w)
   on_draft_plays d Settle s t a w = inl (rw w.1 (verdict_placed S w.0), w)
   on_draft_plays d Reopen s t a w = inr (rw w.0 refl, w.1)
-  on_draft_plays d (Look x y l) s t a w = inl (rw w.1 (told_placed _ (λ _. refl) w.0), w)
+  on_draft_plays d (Look cell) s t a w = inl (rw w.1 (told_placed _ (λ _. refl) w.0), w)
   on_draft_plays d (Entails f) s t a w = inr (rw w.0 refl, w.1)
 
   on_settled_plays : (p : Settled) (c : Call S) (s t : State S) (a : Answer S) → Plays n has h formulas says (on_settled_lem c) (Firm p) c s a t → Either (Firm p) c s a t
@@ -49,7 +49,7 @@ module _ {S : Type 0} (n : ℕ) (has : S → Points) (h : House S) (formulas : �
   on_settled_plays p (Strike i) s t a w = inr (rw w.0 refl, w.1)
   on_settled_plays p Settle s t a w = inr (rw w.0 refl, w.1)
   on_settled_plays p Reopen s t a w = inl (rw w.1 refl, w)
-  on_settled_plays p (Look x y l) s t a w = inl (rw w.1 (told_placed _ (λ _. refl) w.0), w)
+  on_settled_plays p (Look cell) s t a w = inl (rw w.1 (told_placed _ (λ _. refl) w.0), w)
   on_settled_plays p (Entails f) s t a w = inl (rw w.1 (told_placed _ (λ _. refl) w.0), w)
 
   either : (p : Plan) (c : Call S) (s t : State S) (a : Answer S) → Plays n has h formulas says (allows p c) p c s a t → Either p c s a t

@@ -4,6 +4,7 @@ use Rattle.std.specs.Prelude.{◌≡◌, ℕ, Bool, true, false, cond, ◌&&◌,
 use Rattle.points.specs.Points.{Points}
 use Rattle.std.specs.List.{remove}
 use Rattle.house.specs.declared.tables.Sizes.{Sizes}
+use Rattle.house.specs.declared.tables.Cell.{Cell}
 use Rattle.house.specs.declared.tables.Fact.{Fact}
 use Rattle.house.specs.declared.tables.House.{House}
 use Rattle.house.specs.Cells.{fact_inside}
@@ -39,7 +40,7 @@ module _ {S : Type 0} where
   on_draft_lem (Strike i) = true
   on_draft_lem Settle = true
   on_draft_lem Reopen = false
-  on_draft_lem (Look t c l) = true
+  on_draft_lem (Look cell) = true
   on_draft_lem (Entails f) = false
 
   -- the build allows this call on a settled plan
@@ -48,7 +49,7 @@ module _ {S : Type 0} where
   on_settled_lem (Strike i) = false
   on_settled_lem Settle = false
   on_settled_lem Reopen = true
-  on_settled_lem (Look t c l) = true
+  on_settled_lem (Look cell) = true
   on_settled_lem (Entails f) = true
 
   -- The filed facts after one more call, in a house of these sizes with a table of `room` places. File puts its fact at
@@ -59,7 +60,7 @@ module _ {S : Type 0} where
   after s room filed (Strike i) = remove filed i
   after s room filed Settle = filed
   after s room filed Reopen = filed
-  after s room filed (Look t c l) = filed
+  after s room filed (Look cell) = filed
   after s room filed (Entails f) = filed
 
   -- the answer that a result makes
@@ -76,9 +77,8 @@ module _ {S : Type 0} where
 -- with a house, the number of its book's formulas and what these say at x of y, on a scale of n points
 module _ {S : Type 0} (n : ℕ) (has : S → Points) (h : House S) (formulas : ℕ) (says : ℕ → ℕ → ℕ → Points) where
   -- a look leaves all
-  abbrev pub Looks : ℕ → ℕ → ℕ → State S → Answer S → State S → Type 0
-  Looks hour component label s a t =
-      (r : Result S Refusal) × (a ≡ told Seen r) × LookDoes h.sizes hour component label s.cells r × (t ≡ s)
+  abbrev pub Looks : Cell → State S → Answer S → State S → Type 0
+  Looks cell s a t = (r : Result S Refusal) × (a ≡ told Seen r) × LookDoes h.sizes cell s.cells r × (t ≡ s)
 
   -- what a call on a draft answers and leaves, by the definition of the single call
   abbrev pub DraftDoes : Draft → Call S → State S → Answer S → State S → Type 0
@@ -92,7 +92,7 @@ module _ {S : Type 0} (n : ℕ) (has : S → Points) (h : House S) (formulas : �
       (o : Outcome) × (a ≡ verdict o)
       × SettleDoes n has h formulas says d s.table s.cells o t.cells × (t.plan ≡ plan_of o) × (t.table ≡ s.table)
   DraftDoes d Reopen s a t = ⊥
-  DraftDoes d (Look hour component label) s a t = Looks hour component label s a t
+  DraftDoes d (Look cell) s a t = Looks cell s a t
   DraftDoes d (Entails f) s a t = ⊥
 
   -- what a call on a settled plan answers and leaves
@@ -102,6 +102,6 @@ module _ {S : Type 0} (n : ℕ) (has : S → Points) (h : House S) (formulas : �
   SettledDoes p Settle s a t = ⊥
   SettledDoes p Reopen s a t =
       (d : Draft) × (a ≡ Reopened) × ReopenDoes p d × (t.plan ≡ Open d) × (t.table ≡ s.table) × (t.cells ≡ s.cells)
-  SettledDoes p (Look hour component label) s a t = Looks hour component label s a t
+  SettledDoes p (Look cell) s a t = Looks cell s a t
   SettledDoes p (Entails f) s a t =
       (r : Result Bool Refusal) × (a ≡ told Entailed r) × EntailsDoes has h.sizes f s.cells r × (t ≡ s)

@@ -1,6 +1,7 @@
 -- What is promised of every life of a plan.
 use Rattle.std.specs.Prelude.{◌≡◌, ℕ, Bool, true, List, ◌∷◌, ◌++◌, map, length}
 use Rattle.points.specs.Points.{Points, Iff}
+use Rattle.house.specs.declared.tables.Cell.{Cell}
 use Rattle.house.specs.declared.tables.Fact.{Fact}
 use Rattle.house.specs.declared.tables.House.{House}
 use Rattle.house.specs.Cells.{inside, place, cell_count, fact_inside}
@@ -54,9 +55,9 @@ module _ {S : Type 0} (n : ℕ) (has : S → Points) (h : House S) (says : ℕ �
     -- cell and contains, cell by cell, every other one that fits
     pub looks : (before later : List (Event S)) → life ≡ before ++ Settle got Settled ∷ later →
         (cells : List S) × SettlesThen before cells
-        × ((between rest : List (Event S)) (hour component label : ℕ) (a : Answer S) →
-        later ≡ between ++ Look hour component label got a ∷ rest → NoReopen between → inside h.sizes hour component label ≡ true →
-        (x : S) × (a ≡ Seen x) × Stands cells (place h.sizes hour component label) x)
+        × ((between rest : List (Event S)) (cell : Cell) (a : Answer S) →
+        later ≡ between ++ Look cell got a ∷ rest → NoReopen between → inside h.sizes cell.hour cell.component cell.label ≡ true →
+        (x : S) × (a ≡ Seen x) × Stands cells (place h.sizes cell.hour cell.component cell.label) x)
     -- until that reopen entails says yes to a fact inside the house exactly when every fitting course without a void
     -- cell satisfies it
     pub entails : (before later : List (Event S)) → life ≡ before ++ Settle got Settled ∷ later →

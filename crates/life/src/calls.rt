@@ -1,5 +1,5 @@
 // Calls on a plan as values, and their answers.
-use house::Fact;
+use house::{Cell, Fact};
 use plan::{Clash, Draft, Refusal, Settled};
 
 // A plan in either phase.
@@ -16,7 +16,7 @@ pub enum Call<S> {
     Strike(usize),
     Settle,
     Reopen,
-    Look { hour: u8, component: u16, label: u8 },
+    Look(Cell),
     Entails(Fact<S>),
 }
 

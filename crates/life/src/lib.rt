@@ -15,8 +15,6 @@ use scale::Scale;
 
 // Holds the promise: every life of a plan keeps it, for every scale, every book and every house that examine accepts
 // with that book. It does nothing when run.
-pub fn promise_stands<S: Scale, B: Book<S>>() -> u8
+pub fn promise_stands<S: Scale, B: Book<S>>()
     ensures { (b : B) (h : House' S) → Accepted S.Scale.size S.Scale.has h (B.Book.formulas b) → Kept S.Scale.size S.Scale.has h (B.Book.formulas b) (B.Book.says b) }
-{
-    0
-}
+{}

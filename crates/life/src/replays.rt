@@ -37,11 +37,7 @@ fn on_draft<S: Scale, B: Book<S>>(
             Outcome::Contradiction { at, draft } => (Plan::Draft(draft), Answer::Contradiction(at)),
             Outcome::Refused { refusal, draft } => (Plan::Draft(draft), Answer::Refused(refusal)),
         },
-        Call::Look {
-            hour,
-            component,
-            label,
-        } => match draft.look(house.sizes, course, *hour, *component, *label) {
+        Call::Look(cell) => match draft.look(house.sizes, course, *cell) {
             Ok(bound) => (Plan::Draft(draft), Answer::Seen(bound)),
             Err(refusal) => (Plan::Draft(draft), Answer::Refused(refusal)),
         },
@@ -63,11 +59,7 @@ fn on_settled<S: Scale, B: Book<S>>(
 {
     match call {
         Call::Reopen => (Plan::Draft(settled.reopen()), Answer::Reopened),
-        Call::Look {
-            hour,
-            component,
-            label,
-        } => match settled.look(house.sizes, course, *hour, *component, *label) {
+        Call::Look(cell) => match settled.look(house.sizes, course, *cell) {
             Ok(bound) => (Plan::Settled(settled), Answer::Seen(bound)),
             Err(refusal) => (Plan::Settled(settled), Answer::Refused(refusal)),
         },

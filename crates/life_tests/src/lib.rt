@@ -2,7 +2,7 @@
 #![tactic(auto)]
 
 use book::{Book, Stair, Stairs};
-use house::{Body, Condition, Edge, Fact, House, Rule, Sizes, Test};
+use house::{Body, Cell, Condition, Edge, Fact, House, Kind, Rule, Sizes, Test};
 use life::{Answer, Call, replay};
 use scale::{Recorded, Scale, Thousandths};
 
@@ -53,7 +53,7 @@ mod tests {
     fn play_on(
         calls: &[Call<Thousandths>],
         rt: &HostRuntime,
-        source: u8,
+        source: Option<u8>,
         low: Thousandths,
     ) -> Result<Vec<Answer<Thousandths>>, Fail> {
         let loose = Thousandths::loose();
@@ -71,7 +71,7 @@ mod tests {
             },
         ];
         let conditions = [Condition {
-            kind: 0,
+            kind: Kind::Test,
             a: 0,
             b: 0,
         }];
@@ -79,8 +79,8 @@ mod tests {
         let rules = [Rule {
             target: 1,
             delay: 1,
-            onto: 0,
-            along: 255,
+            onto: Some(0),
+            along: None,
             source,
             body,
             formula: 0,
@@ -115,15 +115,15 @@ mod tests {
         calls: &[Call<Thousandths>],
         rt: &HostRuntime,
     ) -> Result<Vec<Answer<Thousandths>>, Fail> {
-        play_on(calls, rt, 255, range(0, 100))
+        play_on(calls, rt, None, range(0, 100))
     }
 
     fn look(hour: u8, component: u16) -> Call<Thousandths> {
-        Call::Look {
+        Call::Look(Cell {
             hour,
             component,
             label: 1,
-        }
+        })
     }
 
     #[test]
@@ -161,7 +161,7 @@ mod tests {
         assert!(rt; answers.len() == 7);
         match answers[3] {
             Answer::Contradiction(at) => assert!(rt;
-                at.hour == 1 && at.component == 2 && at.label == 1 && at.place == 7
+                at.cell.hour == 1 && at.cell.component == 2 && at.cell.label == 1 && at.place == 7
             ),
             _ => return Err(Fail::new("no contradiction")),
         }
@@ -225,10 +225,10 @@ mod tests {
     fn who_is_not_eligible_does_not_count(rt: HostRuntime) -> Result<(), Fail> {
         // No feeder is served, so none is eligible, though one is low; and a void test is met by nobody.
         let calls = [Call::File(known(0, 0, 100, 0, 0)), Call::Settle, look(1, 2)];
-        let served_only = play_on(&calls, &rt, 0, range(0, 100))?;
+        let served_only = play_on(&calls, &rt, Some(0), range(0, 100))?;
         assert!(rt; served_only.len() == 3);
         shows(&rt, served_only[2], 0, 1000)?;
-        let never_low = play_on(&calls, &rt, 255, Thousandths::none())?;
+        let never_low = play_on(&calls, &rt, None, Thousandths::none())?;
         assert!(rt; never_low.len() == 3);
         shows(&rt, never_low[2], 0, 1000)
     }
@@ -262,11 +262,11 @@ mod tests {
         let calls = [
             Call::File(fact),
             Call::Settle,
-            Call::Look {
+            Call::Look(Cell {
                 hour: 0,
                 component: 0,
                 label: 0,
-            },
+            }),
         ];
         let mut facts = [fact; 1];
         let mut course = [Thousandths::loose(); 1];

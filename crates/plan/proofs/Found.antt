@@ -9,7 +9,7 @@ use Rattle.examining.specs.Examine.{Check, AllClear, Accepted, checks}
 use Rattle.examining.proofs.Laws.{sizes_lawful}
 use Rattle.fitting.specs.Course.{Course}
 use Rattle.fitting.specs.Laws.{LoosestFitting}
-use Rattle.engine.specs.declared.voids.Cell.{Cell as Named}
+use Rattle.house.specs.declared.tables.Cell.{Cell as Named}
 use Rattle.engine.specs.Voids.{Numbered, FirstVoid}
 use Rattle.plan.specs.Orders.{table_holds, facts_fit, course_long, settle_checks}
 use Rattle.plan.specs.Courses.{Contradicts}

@@ -40,5 +40,5 @@ module _ {S : Type 0} (n : ℕ) (has : S → Points) (h : House S) (formulas : �
   steps_lead draft table cells cells' (Came settled) w =
       settled_reached n has h says (take draft.count table) (laws _ (few_nodes n has h formulas _ _ _ w.0)) cells' w.2
   steps_lead draft table cells cells' (Failed at draft') w =
-      clash_emptied n has h says (take draft.count table) (laws _ (few_nodes n has h formulas _ _ _ w.0)) at.hour at.component at.label w.2
+      clash_emptied n has h says (take draft.count table) (laws _ (few_nodes n has h formulas _ _ _ w.0)) at.cell.hour at.cell.component at.cell.label w.2
   steps_lead draft table cells cells' (Denied r draft') w = tt

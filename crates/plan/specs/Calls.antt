@@ -3,6 +3,7 @@ use Rattle.std.specs.Prelude.{◌≡◌, ℕ, ◌+◌, ◌-◌, ◌<◌, Bool, t
 use Rattle.points.specs.Points.{Points, Iff}
 use Rattle.std.specs.List.{remove}
 use Rattle.house.specs.declared.tables.Sizes.{Sizes}
+use Rattle.house.specs.declared.tables.Cell.{Cell}
 use Rattle.house.specs.declared.tables.Fact.{Fact}
 use Rattle.house.specs.declared.tables.House.{House}
 use Rattle.house.specs.Cells.{place}
@@ -48,10 +49,10 @@ module _ {S : Type 0} where
       RefusedBy (strike_checks at draft.count (length table)) r × (draft' ≡ draft) × (table' ≡ table)
 
   -- look: the bound that stands in the cell
-  abbrev pub LookDoes : Sizes → ℕ → ℕ → ℕ → List S → Result S Refusal → Type 0
-  LookDoes s hour component label cells (Ok x) =
-      AllClear (look_checks s hour component label (length cells)) × Stands cells (place s hour component label) x
-  LookDoes s hour component label cells (Err r) = RefusedBy (look_checks s hour component label (length cells)) r
+  abbrev pub LookDoes : Sizes → Cell → List S → Result S Refusal → Type 0
+  LookDoes s cell cells (Ok x) =
+      AllClear (look_checks s cell (length cells)) × Stands cells (place s cell.hour cell.component cell.label) x
+  LookDoes s cell cells (Err r) = RefusedBy (look_checks s cell (length cells)) r
 
   -- entails: yes exactly when the course in the cells satisfies the fact
   abbrev pub EntailsDoes : (S → Points) → Sizes → Fact S → List S → Result Bool Refusal → Type 0
@@ -70,8 +71,8 @@ module _ {S : Type 0} (n : ℕ) (has : S → Points) (h : House S) (formulas : �
   SettleDoes draft table cells (Failed at draft') cells' =
       AllClear (settle_checks n has h formulas draft.count table (length cells))
       × (draft' ≡ draft)
-      × Contradicts n has h says (take draft.count table) at.hour at.component at.label
-      × (at.place ≡ place h.sizes at.hour at.component at.label)
+      × Contradicts n has h says (take draft.count table) at.cell.hour at.cell.component at.cell.label
+      × (at.place ≡ place h.sizes at.cell.hour at.cell.component at.cell.label)
       × (length cells' ≡ length cells)
       × AllLoose n has cells'
   SettleDoes draft table cells (Denied r draft') cells' =

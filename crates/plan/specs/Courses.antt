@@ -9,7 +9,7 @@ use Rattle.house.specs.Cells.{place, cell_count, covers}
 use Rattle.fitting.specs.Course.{Course, Cell, OfHouse, VoidFree, course_of}
 use Rattle.fitting.specs.Fits.{Fits}
 use Rattle.fitting.specs.Laws.{LoosestFitting}
-use Rattle.engine.specs.declared.voids.Cell.{Cell as Named}
+use Rattle.house.specs.declared.tables.Cell.{Cell as Named}
 use Rattle.plan.specs.declared.outcomes.Clash.{Clash}
 
 module _ {S : Type 0} (has : S → Points) where
@@ -49,7 +49,5 @@ module _ {S : Type 0} (n : ℕ) (has : S → Points) (h : House S) (says : ℕ �
 
 -- a cell that is named, with its place if the house has it
 pub record Clashes (s : Sizes) (cell : Named) (r : Clash) : Type 0 where
-  pub hour : r.hour ≡ cell.hour
-  pub component : r.component ≡ cell.component
-  pub label : r.label ≡ cell.label
+  pub named : r.cell ≡ cell
   pub place_is : Cell s cell.hour cell.component cell.label → r.place ≡ place s cell.hour cell.component cell.label

@@ -1,4 +1,5 @@
 pub mod Refusals
+pub mod Texts
 pub mod Orders
 pub mod Courses
 pub mod Calls

@@ -3,6 +3,7 @@ use Rattle.std.specs.Prelude.{ℕ, Bool, true, List, [], ◌∷◌, ◌++◌, le
 use Rattle.points.specs.Points.{Points}
 use Rattle.points.specs.Tables.{at_place}
 use Rattle.house.specs.declared.tables.Sizes.{Sizes}
+use Rattle.house.specs.declared.tables.Cell.{Cell}
 use Rattle.house.specs.declared.tables.Fact.{Fact}
 use Rattle.house.specs.declared.tables.House.{House}
 use Rattle.house.specs.Cells.{inside, cell_count, fact_inside}
@@ -48,8 +49,8 @@ abbrev pub strike_checks : ℕ → ℕ → ℕ → List Check
 strike_checks at count room = table_holds count room ∷ once 12 (nat_lt at count) ∷ []
 
 -- look: 1, 13, and 15 where the house has no such cell
-abbrev pub look_checks : Sizes → ℕ → ℕ → ℕ → ℕ → List Check
-look_checks s hour component label long = size_check s ∷ course_long s long ∷ once 15 (inside s hour component label) ∷ []
+abbrev pub look_checks : Sizes → Cell → ℕ → List Check
+look_checks s cell long = size_check s ∷ course_long s long ∷ once 15 (inside s cell.hour cell.component cell.label) ∷ []
 
 -- entails: 1, 13, 11
 abbrev pub entails_checks : {S : Type 0} → Sizes → Fact S → ℕ → List Check

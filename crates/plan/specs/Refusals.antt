@@ -1,5 +1,5 @@
 -- What the calls on a plan refuse: the number of each refusal, and its place.
-use Rattle.std.specs.Prelude.{◌≡◌, ℕ, Bool, true, false, Ok, Err, Result}
+use Rattle.std.specs.Prelude.{ℕ}
 use Rattle.examining.specs.Defects.{number_of as defect_number, place_of as defect_place}
 use Rattle.plan.specs.declared.refusals.Refusal.{Refusal}
 use Rattle.plan.specs.declared.refusals.Refusal.TheVariants.{House, Short, Full, Outside, NoFact, Length, NoCell}
@@ -27,8 +27,3 @@ place_of (Outside at) = at
 place_of NoFact = 0
 place_of Length = 0
 place_of NoCell = 0
-
--- a check that passes refuses nothing, and one that fails refuses so
-abbrev pub Required : Bool → Refusal → Result (Unit {0}) Refusal → Type 0
-Required passes refusal (Ok _) = passes ≡ true
-Required passes refusal (Err r) = (passes ≡ false) × (r ≡ refusal)

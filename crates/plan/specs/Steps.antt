@@ -26,7 +26,7 @@ module _ {S : Type 0} (n : ℕ) (has : S → Points) (h : House S) (formulas : �
   -- joint steps lead to the settled course, or to a void cell where a contradiction names it
   abbrev pub Led : List (Fact S) → Outcome → List S → Type 0
   Led filed (Came settled) cells = Reached n has h says filed cells
-  Led filed (Failed at draft) cells = Emptied n has h says filed at.hour at.component at.label
+  Led filed (Failed at draft) cells = Emptied n has h says filed at.cell.hour at.cell.component at.cell.label
   Led filed (Denied r draft) cells = Unit {0}
 
   -- so it is whatever settle answers

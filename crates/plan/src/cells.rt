@@ -6,26 +6,19 @@ ghost use Rattle.fitting.specs.Course.{course_of};
 ghost use Rattle.plan.specs.Courses.{Satisfies, SatisfiesAt};
 ghost use Rattle.plan.specs.Calls.{LookDoes, EntailsDoes};
 
-use super::refusals::require;
 use super::{Draft, Refusal, Settled};
-use examining::check_sizes;
-use house::{Fact, Sizes};
+use examining::{check_sizes, require};
+use house::{Cell, Fact, Sizes};
 use scale::Scale;
 
 // The bound in a cell of a course. Refuses a size outside its limits, then a course of another length, then an hour, a
 // component or a moving label outside the house.
-fn cell<S: Scale>(
-    sizes: Sizes,
-    course: &[S],
-    hour: u8,
-    component: u16,
-    label: u8,
-) -> Result<S, Refusal>
-    ensures { LookDoes sizes hour component label course.now result }
+fn bound_of<S: Scale>(sizes: Sizes, course: &[S], cell: Cell) -> Result<S, Refusal>
+    ensures { LookDoes sizes cell course.now result }
 {
     check_sizes(sizes)?;
     require(course.len() == sizes.cells(), Refusal::Length)?;
-    match sizes.place(hour, component, label) {
+    match sizes.place(cell) {
         Some(place) => Ok(course[place]),
         None => Err(Refusal::NoCell),
     }
@@ -36,7 +29,12 @@ fn satisfied_at<S: Scale>(sizes: Sizes, course: &[S], fact: &Fact<S>, hour: u8) 
     requires { length course.now ≡ cell_count sizes }
     ensures { Iff (result ≡ true) (SatisfiesAt S.Scale.has sizes (course_of sizes S.Scale.has course.now) fact.now hour) }
 {
-    match sizes.place(hour, fact.component, fact.label) {
+    let cell = Cell {
+        hour,
+        component: fact.component,
+        label: fact.label,
+    };
+    match sizes.place(cell) {
         Some(place) => course[place].within(fact.bound),
         None => true,
     }
@@ -57,33 +55,19 @@ fn satisfied<S: Scale>(sizes: Sizes, course: &[S], fact: &Fact<S>) -> bool
 
 impl Draft {
     // The bound that the cell holds now, whatever that is.
-    pub fn look<S: Scale>(
-        &self,
-        sizes: Sizes,
-        course: &[S],
-        hour: u8,
-        component: u16,
-        label: u8,
-    ) -> Result<S, Refusal>
-        ensures { LookDoes sizes hour component label course.now result }
+    pub fn look<S: Scale>(&self, sizes: Sizes, course: &[S], cell: Cell) -> Result<S, Refusal>
+        ensures { LookDoes sizes cell course.now result }
     {
-        cell(sizes, course, hour, component, label)
+        bound_of(sizes, course, cell)
     }
 }
 
 impl Settled {
     // The bound of the cell.
-    pub fn look<S: Scale>(
-        &self,
-        sizes: Sizes,
-        course: &[S],
-        hour: u8,
-        component: u16,
-        label: u8,
-    ) -> Result<S, Refusal>
-        ensures { LookDoes sizes hour component label course.now result }
+    pub fn look<S: Scale>(&self, sizes: Sizes, course: &[S], cell: Cell) -> Result<S, Refusal>
+        ensures { LookDoes sizes cell course.now result }
     {
-        cell(sizes, course, hour, component, label)
+        bound_of(sizes, course, cell)
     }
 
     // Whether the course satisfies a fact: every cell that the fact covers is within its bound. Refuses a size outside

@@ -1,9 +1,8 @@
 // Drafts: opening, filing, striking and reopening.
 ghost use Rattle.plan.specs.Calls.{OpenDoes, FileDoes, StrikeDoes, ReopenDoes};
 
-use super::refusals::require;
 use super::{Draft, Refusal, Settled};
-use examining::check_sizes;
+use examining::{check_sizes, require};
 use house::{Fact, Sizes};
 use scale::Scale;
 

@@ -38,8 +38,6 @@ pub struct Settled {
 // Holds that what settle answers is where the joint step leads, for every scale, book, house, draft, table and course:
 // the joint step leaves a settled course as it is, and finitely many joint steps from the loosest course lead to it, or
 // to a void cell where a contradiction names it. It does nothing when run.
-pub fn steps_stand<S: Scale, B: Book<S>>() -> u8
+pub fn steps_stand<S: Scale, B: Book<S>>()
     ensures { (b : B) (h : House' S) → StepsLead S.Scale.size S.Scale.has h (B.Book.formulas b) (B.Book.says b) }
-{
-    0
-}
+{}

@@ -1,16 +1,17 @@
 // What settling comes to.
-ghost use Rattle.std.specs.Prelude.{◌≡◌};
+ghost use Rattle.std.specs.Prelude.{◌≡◌, Some};
 ghost use Rattle.plan.specs.Refusals.{clash_number};
+ghost use Rattle.plan.specs.Texts.{clash_text};
 
 use super::{Draft, Refusal, Settled};
+use house::Cell;
+use std::fmt;
 
 // The cell that a contradiction names: of the cells that are void in every course that fits, the first. Cells are in the
 // order of their hours, then of their components, then of their labels, and `place` is the place in that order.
-#[derive(Clone, Copy)]
+#[derive(Clone, Copy, PartialEq, Eq, Debug)]
 pub struct Clash {
-    pub hour: u8,
-    pub component: u16,
-    pub label: u8,
+    pub cell: Cell,
     pub place: usize,
 }
 
@@ -20,6 +21,20 @@ impl Clash {
         ensures { result ≡ clash_number }
     {
         14
+    }
+}
+
+// The text of a contradiction: the cell that it names.
+impl fmt::Display for Clash {
+    ghost output = { λ r. Some (clash_text r.cell.hour r.cell.component r.cell.label) };
+
+    fn fmt<W: fmt::Write>(&self, f: &mut fmt::Formatter<W>) -> fmt::Result {
+        let Cell {
+            hour,
+            component,
+            label,
+        } = self.cell;
+        write!(f, "contradiction {hour} {component} {label}")
     }
 }
 

@@ -1,12 +1,15 @@
 // What a call on a plan can refuse.
-ghost use Rattle.std.specs.Prelude.{◌≡◌};
-ghost use Rattle.plan.specs.Refusals.{number_of, place_of, Required};
+ghost use Rattle.std.specs.Prelude.{◌≡◌, Some};
+ghost use Rattle.plan.specs.Refusals.{number_of, place_of};
+ghost use Rattle.plan.specs.Texts.{refusal_text};
 ghost use Rattle.plan.specs.declared.refusals.Refusal.TheVariants.{House as HouseCase};
 
 use examining::Defect;
+use std::error::Error;
+use std::fmt;
 
 // Each case is a check that a call makes before it does anything.
-#[derive(Clone, Copy)]
+#[derive(Clone, Copy, PartialEq, Eq, Debug)]
 pub enum Refusal {
     // The sizes, or the tables, are no house.
     House(Defect),
@@ -61,9 +64,15 @@ impl From<Defect> for Refusal {
     }
 }
 
-// Refuses unless a check passes.
-pub(super) fn require(passes: bool, refusal: Refusal) -> Result<(), Refusal>
-    ensures { Required passes refusal result }
-{
-    if passes { Ok(()) } else { Err(refusal) }
+// The text of a refusal: its number and its place.
+impl fmt::Display for Refusal {
+    ghost output = { λ r. Some (refusal_text (number_of r) (place_of r)) };
+
+    fn fmt<W: fmt::Write>(&self, f: &mut fmt::Formatter<W>) -> fmt::Result {
+        let number = self.number();
+        let place = self.place();
+        write!(f, "refused {number} {place}")
+    }
 }
+
+impl Error for Refusal {}

@@ -4,12 +4,11 @@ ghost use Rattle.plan.specs.Calls.{SettleDoes};
 ghost use Rattle.plan.specs.Orders.{Checked, facts_fit, settle_checks};
 ghost use Rattle.plan.specs.Courses.{Clashes};
 
-use super::refusals::require;
 use super::{Clash, Draft, Outcome, Refusal, Settled};
 use book::Book;
-use engine::{Cell, first_void, loosen, settle_hours};
-use examining::examine;
-use house::{Fact, House, Sizes};
+use engine::{first_void, loosen, settle_hours};
+use examining::{examine, require};
+use house::{Cell, Fact, House, Sizes};
 use scale::Scale;
 
 // Refuses the first of the filed facts that is outside the house, by its place.
@@ -45,11 +44,9 @@ fn check_settle<S: Scale, B: Book<S>>(
 fn clash(sizes: Sizes, cell: Cell) -> Clash
     ensures { Clashes sizes cell result }
 {
-    let place = sizes.place(cell.hour, cell.component, cell.label);
+    let place = sizes.place(cell);
     Clash {
-        hour: cell.hour,
-        component: cell.component,
-        label: cell.label,
+        cell,
         place: place.unwrap_or(0),
     }
 }

@@ -15,9 +15,9 @@ returns-in-Some g c =
     let found = c.in-Some.ensures r.numbered (c.settle_hours.auto.course ∙ r.whole) in (
       c.in_default.ensures,
       refl,
-      rw (c.clash.ensures.hour, c.clash.ensures.component, c.clash.ensures.label)
+      rw c.clash.ensures.named
           (first_clashes g.S.Scale.size g.S.Scale.has c.args.house.now (g.B.Book.says c.args.book.now) _ _ c.in-Some.cell best found),
-      rw (c.clash.ensures.hour, c.clash.ensures.component, c.clash.ensures.label) (c.clash.ensures.place_is found.0),
+      rw c.clash.ensures.named (c.clash.ensures.place_is found.0),
       c.loosen.auto.course ∙ c.settle_hours.auto.course,
       c.loosen.ensures,
     )
