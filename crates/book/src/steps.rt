@@ -156,9 +156,7 @@ impl<S: Scale, T: Step<S>, L: Listing<T>> Book<S> for StepBook<T, L> {
     }
 }
 
-// Holds what steps mean, for every kind of step. It does nothing when run.
-pub fn step_laws_stand<S: Scale, T: Step<S>>() -> u8
+// What steps mean, for every kind of step: a theorem, with nothing to run.
+pub fn step_laws_stand<S: Scale, T: Step<S>>()
     ensures { StepLaws T.Step.number T.Step.reaches (λ t. S.Scale.has (T.Step.limit t)) S.Scale.size }
-{
-    0
-}
+{}
