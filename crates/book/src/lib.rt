@@ -17,7 +17,10 @@ mod steps;
 pub use counts::{CountStep, CountingBook};
 pub use quorums::{Quorum, QuorumTooLarge};
 pub use shares::{Stair, Stairs};
-pub use steps::{Listing, Step, StepBook, step_laws_stand};
+pub use steps::{Step, StepBook, step_laws_stand};
+
+// The most eligible neighbours that a formula speaks of, and so the largest quorum.
+pub const MOST_ELIGIBLE: u8 = 200;
 
 pub trait Book<S: Scale> {
     // How many formulas the book has; they are numbered from 0.

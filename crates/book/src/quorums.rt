@@ -3,11 +3,8 @@ ghost use Rattle.std.specs.Prelude.{◌≡◌, nat_lt};
 ghost use Rattle.book.specs.Quorums.{quorate, Founded};
 ghost use Rattle.book.specs.Answering.{quorum_narrows};
 
-use super::Book;
+use super::{Book, MOST_ELIGIBLE};
 use scale::Scale;
-
-// The largest quorum.
-const MOST: u8 = 200;
 
 // A book that says what the book below it says where at least `least` neighbours are eligible, and is loose elsewhere.
 #[derive(Drop)]
@@ -28,7 +25,7 @@ impl<B> Quorum<B> {
     pub fn new(least: u8, book: B) -> Result<Quorum<B>, QuorumTooLarge<B>>
         ensures { Founded least book result }
     {
-        if least <= MOST {
+        if least <= MOST_ELIGIBLE {
             Ok(Quorum { least, book })
         } else {
             Err(QuorumTooLarge { least, book })

@@ -27,9 +27,7 @@ pub trait Recorded: Scale {
     ghost one_form: { (a b : Self) → Iff (form a ≡ form b) (Same (Self.Scale.has a) (Self.Scale.has b)) };
 }
 
-// Holds the laws of forms, for every recorded scale. It does nothing when run.
-pub fn form_laws_stand<S: Recorded>() -> u8
+// The laws of forms, for every recorded scale: a theorem, with nothing to run.
+pub fn form_laws_stand<S: Recorded>()
     ensures { FormLaws S.Scale.has S.Recorded.form }
-{
-    0
-}
+{}

@@ -131,12 +131,10 @@ impl Recorded for Thousandths {
     }
 }
 
-// Holds that different named bounds have different points. It does nothing when run.
-pub fn ranges_apart() -> u8
+// Different named bounds have different points: a theorem, with nothing to run.
+pub fn ranges_apart()
     ensures { RangesApart }
-{
-    0
-}
+{}
 
 #[cfg(test)]
 mod tests {
@@ -167,6 +165,15 @@ mod tests {
         assert!(rt; Thousandths::from_bytes([0, 0, 3, 233]).is_err());
         assert!(rt; Thousandths::from_bytes([0, 7, 0, 3]).is_err());
         assert!(rt; Thousandths::from_bytes([0, 2, 0, 0]).is_err());
+    }
+
+    #[test]
+    fn loose_goes_by_points(rt: HostRuntime) {
+        assert!(rt; Thousandths::loose().is_loose());
+        assert!(rt; (Thousandths { low: 0, high: 5000 }).is_loose());
+        assert!(rt; !(Thousandths { low: 1, high: 5000 }).is_loose());
+        assert!(rt; !(Thousandths { low: 0, high: 999 }).is_loose());
+        assert!(rt; !Thousandths::none().is_loose());
     }
 
     #[test]

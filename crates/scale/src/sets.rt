@@ -88,12 +88,10 @@ impl Recorded for Modes {
     }
 }
 
-// Holds that different sets have different modes. It does nothing when run.
-pub fn sets_apart() -> u8
+// Different sets have different modes: a theorem, with nothing to run.
+pub fn sets_apart()
     ensures { SetsApart }
-{
-    0
-}
+{}
 
 #[cfg(test)]
 mod tests {
@@ -109,6 +107,7 @@ mod tests {
         assert_eq!(rt; Modes::of(6).meet(Modes::of(3)).mask(), 2);
         assert_eq!(rt; Modes::of(0).to_bytes(), [0, 0, 0, 0]);
         assert!(rt; Modes::of(0).void() && !three.void());
+        assert!(rt; all.is_loose() && !three.is_loose());
     }
 
     #[test]
