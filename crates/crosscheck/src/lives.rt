@@ -122,12 +122,10 @@ fn lent_call<S: Recorded>(step: Step) -> anyhow::Result<Call<S>> {
 
 // The fact as the second program has it.
 fn own_fact(kind: Kind, fact: Spoken) -> second::Fact {
-    let [p, q, r, s] = fact.form;
-    let bound = kind.bound(u16::from_be_bytes([p, q]), u16::from_be_bytes([r, s]));
     second::Fact {
         component: fact.component as usize,
         label: fact.label as usize,
-        bound: bound.unwrap_or(Set::empty()),
+        bound: kind.bound(fact.form).unwrap_or(Set::empty()),
         from: fact.from as usize,
         to: fact.to as usize,
     }
@@ -144,11 +142,11 @@ fn own_call(kind: Kind, step: Step) -> second::Call {
             hour,
             component,
             label,
-        } => second::Call::Look {
+        } => second::Call::Look(second::Cell {
             hour: hour as usize,
             component: component as usize,
             label: label as usize,
-        },
+        }),
         Step::Entails(fact) => second::Call::Entails(own_fact(kind, fact)),
     }
 }
