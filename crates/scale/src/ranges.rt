@@ -18,6 +18,7 @@ use std::fmt;
 // The highest point.
 const TOP: u16 = 1000;
 
+// A range of thousandths, or the void. Equality is not derived: two values may mean the same points.
 #[derive(Clone, Copy, Debug)]
 pub struct Thousandths {
     low: u16,
