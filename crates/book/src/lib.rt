@@ -1,6 +1,7 @@
 // Books of formulas: how neighbours press on a part.
 //
-// A formula says a bound for every count of neighbours: x of them qualify among y that are eligible.
+// A formula says a bound for every count of neighbours: x of them qualify among y that are eligible. Code and contracts
+// alike speak of "f at x of y", so these stay three arguments and are no struct.
 #![tactic(auto)]
 
 ghost use Rattle.std.specs.Prelude.{◌≡◌, ℕ, ◌≤◌, true};

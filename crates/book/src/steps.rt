@@ -1,6 +1,7 @@
 // Books of steps: a formula is made of steps, and each step that is reached narrows it.
 //
-// A step is of one formula, and says a bound once it is reached. Kinds of step differ only in when one is reached.
+// A step is of one formula, and says a bound once it is reached. Kinds of step differ only in when one is reached; each is
+// a struct of its own, since whoever fills one in names what it counts, `share` or `least`.
 ghost use Rattle.std.specs.Prelude.{◌≡◌, ℕ, ◌+◌, ◌≤◌, max, Bool, true, false};
 ghost use Rattle.points.specs.Points.{Same, Meet};
 ghost use Rattle.book.specs.Meaning.{asked, answered};
@@ -35,8 +36,8 @@ pub trait Step<S: Scale>: Copy {
     ghost stays: { (t : Self) (x z y : ℕ) → x ≤ z → z ≤ y → y ≤ 200 → reaches t x y ≡ true → reaches t z y ≡ true };
 }
 
-// A book over a list of steps of one kind, held as whatever lends a slice of them.
-#[derive(Clone, Copy)]
+// A book over a list of steps of one kind: whatever lends a slice of them, as a lent slice, an array or a `Vec` does.
+#[derive(Clone, Copy, Debug)]
 pub struct StepBook<T, L> {
     steps: L,
     kind: PhantomData<T>,

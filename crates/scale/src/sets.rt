@@ -9,17 +9,19 @@ ghost use Rattle.scale.specs.SetFacts.{mode_below, set_one_form};
 
 use super::{NotABound, Recorded, Scale};
 
-#[derive(Clone, Copy)]
+// A set of modes. Equality is not derived: generic code compares bounds by their points.
+#[derive(Clone, Copy, Debug)]
 pub struct Modes {
     mask: u16,
 }
 
+// To and from a mask by name, and by no `From`: a number alone does not say that it is a mask.
 impl Modes {
     // The set of the modes i whose bit, worth 2^i, is set.
     pub fn of(mask: u16) -> Modes
         ensures { result ≡ masked mask }
     {
-        Modes { mask: mask }
+        Modes { mask }
     }
 
     // The mask of this set.
