@@ -36,7 +36,7 @@ pub trait Step<S: Scale>: Copy {
 }
 
 // A book over a list of steps of one kind, held as whatever lends a slice of them.
-#[derive(Clone, Copy)]
+#[derive(Clone, Copy, Debug)]
 pub struct StepBook<T, L> {
     steps: L,
     kind: PhantomData<T>,

@@ -3,30 +3,44 @@
 // Bounds lie in tables that callers lend, so a value carries no invariant: whatever `low` and `high` hold, it means the
 // points from 0 to 1000 that lie from low to high. Every function goes by these points and gives named bounds only:
 // a range with low ≤ high ≤ 1000, or the void, 1 to 0.
-ghost use Rattle.std.specs.Prelude.{◌≡◌, ℕ, min, true, IfOk};
+ghost use Rattle.std.specs.Prelude.{◌≡◌, ℕ, min, true, Some, IfOk};
 ghost use Rattle.points.specs.Points.{Points, Loose, Meet, within, void};
 ghost use Rattle.scale.specs.Forms.{Reads};
 ghost use Rattle.scale.specs.Ranges.{points, ranging, named, range_form, Canonical, Ranged, Ends, RangesApart};
+ghost use Rattle.scale.specs.Texts.{not_a_range_text};
 ghost use Rattle.std.proofs.Common.{rules};
 ghost use Rattle.scale.specs.RangeFacts.{range_one_form};
 
 use super::{NotABound, Recorded, Scale};
+use std::error::Error;
+use std::fmt;
 
 // The highest point.
 const TOP: u16 = 1000;
 
-#[derive(Clone, Copy)]
+#[derive(Clone, Copy, Debug)]
 pub struct Thousandths {
     low: u16,
     high: u16,
 }
 
 // Two ends that make no range: low is above high, or high is above 1000.
-#[derive(Clone, Copy)]
+#[derive(Clone, Copy, PartialEq, Eq, Debug)]
 pub struct NotARange {
     pub low: u16,
     pub high: u16,
 }
+
+impl fmt::Display for NotARange {
+    ghost output = { λ e. Some (not_a_range_text e) };
+
+    fn fmt<W: fmt::Write>(&self, f: &mut fmt::Formatter<W>) -> fmt::Result {
+        let NotARange { low, high } = *self;
+        write!(f, "{low} to {high} is no range of thousandths")
+    }
+}
+
+impl Error for NotARange {}
 
 impl Thousandths {
     // The range from low to high, both included.

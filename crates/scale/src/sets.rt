@@ -9,7 +9,7 @@ ghost use Rattle.scale.specs.SetFacts.{mode_below, set_one_form};
 
 use super::{NotABound, Recorded, Scale};
 
-#[derive(Clone, Copy)]
+#[derive(Clone, Copy, Debug)]
 pub struct Modes {
     mask: u16,
 }
