@@ -50,7 +50,7 @@ pub enum Record<S> {
 }
 
 // Why sixteen bytes are no record.
-#[derive(Clone, Copy)]
+#[derive(Clone, Copy, PartialEq, Eq, Debug)]
 pub enum LineFault {
     // An unknown letter, a byte without a name that is not 0, or a quorum above 200.
     Bytes,

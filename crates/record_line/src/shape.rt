@@ -2,8 +2,7 @@
 ghost use Rattle.std.specs.Prelude.{◌≡◌, ◌↔◌, IsTrue};
 ghost use Rattle.record_line.specs.Lines.{Clear, Formed, named_end as named_end_lem};
 
-// The highest quorum.
-const MOST: u8 = 200;
+use book::MOST_ELIGIBLE;
 
 // The first byte behind those that a letter names; 0 where it is no letter of a record.
 fn named_end(letter: u8) -> usize
@@ -34,7 +33,7 @@ pub fn has_shape(line: &[u8; 16]) -> bool
 {
     let end = named_end(line[0]);
     let fits = match *line {
-        [b'S', _, _, _, _, _, quorum, ..] => quorum <= MOST,
+        [b'S', _, _, _, _, _, quorum, ..] => quorum <= MOST_ELIGIBLE,
         [b'T', _, 0, 0, ..] => true,
         [b'T', ..] => false,
         _ => true,

@@ -1,7 +1,8 @@
 use Rattle.std.proofs.Common.{[], get_or, refl, ap, ◌∙◌}
 use Rattle.std.proofs.lemmas.Result.{err_from_is_err_and}
 use Rattle.record.specs.Reads.{sizes_of_lem}
-use Rattle.record.proofs.Whole.{reads_no_sizes, reads_stops, reads_whole}
+use Rattle.record.proofs.Taking.{lent_on}
+use Rattle.record.proofs.Whole.{fresh_from, reads_no_sizes, reads_stops, reads_whole}
 use Rattle.record.proofs.reading.read.Goals as goal
 
 pub returns-in_err-check_sizes : goal.returns-in_err-check_sizes
@@ -18,13 +19,13 @@ returns-in_err-check_sizes g c =
         framed,
         reads_no_sizes g.S.Scale.size g.S.Scale.has g.S.Recorded.form c.args.bytes.now k framed t t lines c.as_chunks.ensures.front c.sizes_of-sizes.result sized
             c.in_err-check_sizes.field-0.0 c.in_err-check_sizes.ensures,
-        record { edges = refl; fixed = refl; tests = refl; conditions = refl; constraints = refl; rules = refl; steps = refl; facts = refl },
+        record { edges = refl; fixed = refl; tests = refl; conditions = refl; constraints = refl; rules = refl; steps = refl; facts = refl; counts = refl },
       );
       lent = (refl, refl, refl, refl, refl, refl, refl, refl);
     })
 
 pub take_all-requires : goal.take_all-requires
-take_all-requires g c = rw c.loosen.ensures.long c.loosen.ensures.here
+take_all-requires g c = fresh_from g.S.Scale.size g.S.Scale.has _ _ _ c.start.ensures.does
 
 pub returns-in_err-draft : goal.returns-in_err-draft
 returns-in_err-draft g c =
@@ -36,9 +37,9 @@ returns-in_err-draft g c =
     rw (p.1, p.2) (record {
       does = reads_stops g.S.Scale.size g.S.Scale.has g.S.Recorded.form c.args.bytes.now k c.in_ok-at.ensures c.args.tables.now _ lines
           c.as_chunks.ensures.front c.sizes_of-sizes.result sized c.in_ok-check_sizes.ensures
-          (record { edges = refl; fixed = c.loosen.ensures; tests = refl; conditions = refl; constraints = refl; rules = refl; steps = refl; facts = refl })
+          c.start.ensures.does
           c.in_err-draft.field-0.0 c.take_all.new.tables d.does;
-      lent = d.lent;
+      lent = lent_on c.args.tables.now c.start.new.tables c.take_all.new.tables c.start.ensures.lent d.lent;
     })
 
 pub returns : goal.returns
@@ -50,7 +51,7 @@ returns g c =
     record {
       does = reads_whole g.S.Scale.size g.S.Scale.has g.S.Recorded.form c.args.bytes.now k c.in_ok-at.ensures c.args.tables.now _ lines
           c.as_chunks.ensures.front c.sizes_of-sizes.result sized c.in_ok-check_sizes.ensures
-          (record { edges = refl; fixed = c.loosen.ensures; tests = refl; conditions = refl; constraints = refl; rules = refl; steps = refl; facts = refl })
-          c.in_ok-draft.draft c.in_ok-draft.counts _ c.take_all.new.tables refl d.does;
-      lent = d.lent;
+          c.start.ensures.does
+          c.in_ok-draft.draft _ c.take_all.new.tables refl d.does;
+      lent = lent_on c.args.tables.now c.start.new.tables c.take_all.new.tables c.start.ensures.lent d.lent;
     }
