@@ -4,11 +4,7 @@ use Rattle.std.proofs.lemmas.Bool.Decides.{nat_tests}
 use Rattle.points.specs.Points.{Points, Same, Meet, Loose, implies}
 use Rattle.points.specs.Tables.{all_pass}
 use Rattle.book.specs.Steps.{presses, said}
-
-pass_push : {T : Type 0} (q : T → Bool) (ts : List T) (t : T) → all_pass q (ts ++ t ∷ []) ≡ (all_pass q ts && q t)
-unfolding all_pass
-pass_push q [] t = grind (arith, nat_tests)
-pass_push q (u ∷ ts) t = grind (arith, nat_tests, pass_push q ts t)
+use Rattle.book.specs.Saying.{pass_push}
 
 pass_filter : {T : Type 0} (q r : T → Bool) (ts : List T) → all_pass r (filter q ts) ≡ all_pass (λ t. implies (q t) (r t)) ts
 unfolding all_pass implies
