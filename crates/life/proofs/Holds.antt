@@ -3,6 +3,7 @@ use Rattle.std.proofs.Common.{◌≡◌, ℕ, suc, ◌+◌, ◌-◌, ◌<◌, �
 use Rattle.std.specs.List.{remove}
 use Rattle.std.proofs.lemmas.List.{length-take, length_push, length-append, length-drop, length-set, take_more_set, take_at, take_all, drop_all, append-nil}
 use Rattle.std.proofs.lemmas.List.Edits.{length-remove}
+use Rattle.std.proofs.lemmas.List.Elements.{All-push}
 use Rattle.std.proofs.lemmas.Bool.{cases_Bool, and_parts, and_from, ltb-true, le-leb, lt-ltb, eq-eqb, cond-true, cond-false, cases_lt}
 use Rattle.points.specs.Points.{Points}
 use Rattle.house.specs.declared.tables.Sizes.{Sizes}
@@ -19,7 +20,7 @@ use Rattle.plan.specs.Refusals.{number_of, place_of}
 use Rattle.plan.specs.Orders.{table_holds, facts_fit, course_long, file_checks, strike_checks, settle_checks}
 use Rattle.plan.specs.Courses.{Settles}
 use Rattle.plan.specs.Calls.{FileDoes, StrikeDoes, SettleDoes}
-use Rattle.plan.proofs.Checked.{not_clear, clear_append, once_use, once_clear, AllInside, inside_clear, inside_append, inside_removed}
+use Rattle.plan.proofs.Checked.{not_clear, clear_append, once_use, once_clear, IsInside, AllInside, inside_clear, inside_removed}
 use Rattle.life.specs.declared.calls.Plan.{Plan}
 use Rattle.life.specs.declared.calls.Plan.TheVariants.{Draft as Open, Settled as Firm}
 use Rattle.life.specs.declared.calls.Call.{Call}
@@ -64,7 +65,7 @@ module _ {S : Type 0} (s : Sizes) (sized : Clear (size_check s)) (room : ℕ) wh
         begins =
             rw (length_push filed f, ← h.counted) (take_more_set table d.count f l ∙ ap (λ (xs : List (Fact S)). xs ++ f ∷ []) (front s h));
         roomy = length-set table d.count f ∙ h.roomy;
-        inner = inside_append s filed (f ∷ []) h.inner (i, tt);
+        inner = All-push (IsInside s) filed f h.inner i;
       })
   file_lies f filed d e table table' (Err r) h w = ways (cases_Bool (fact_inside s f && ltb (length filed) room))
     where

@@ -1,6 +1,7 @@
 -- Every life keeps the promise. Assumes nothing.
-use Rattle.std.proofs.Common.{◌≡◌, ℕ, Bool, true, List, [], ◌∷◌, ◌++◌, length, Ok, Err, Result, refl, ap, ◌∙◌, subst, arith}
+use Rattle.std.proofs.Common.{◌≡◌, ℕ, Bool, true, List, [], ◌∷◌, ◌++◌, length, Ok, Err, Result, refl, ap, ◌∙◌, subst}
 use Rattle.std.proofs.lemmas.Bool.{eq-eqb}
+use Rattle.std.proofs.lemmas.List.Elements.{All-nil}
 use Rattle.points.specs.Points.{Points, Iff}
 use Rattle.house.specs.declared.tables.Sizes.{Sizes}
 use Rattle.house.specs.declared.tables.Cell.{Cell}
@@ -18,7 +19,7 @@ use Rattle.plan.specs.Refusals.{number_of, place_of}
 use Rattle.plan.specs.Orders.{look_checks, entails_checks, settle_checks}
 use Rattle.plan.specs.Courses.{Satisfies, Fitting, Settles}
 use Rattle.plan.specs.Calls.{Stands, SettleDoes, LookDoes, EntailsDoes}
-use Rattle.plan.proofs.Checked.{not_clear, once_clear}
+use Rattle.plan.proofs.Checked.{not_clear, once_clear, IsInside}
 use Rattle.life.specs.declared.calls.Plan.{Plan}
 use Rattle.life.specs.declared.calls.Plan.TheVariants.{Draft as Open, Settled as Firm}
 use Rattle.life.specs.declared.calls.Call.{Call}
@@ -59,7 +60,7 @@ module _ {S : Type 0} (n : ℕ) (has : S → Points) (h : House S) (formulas : �
   rests_on p (Entails f) s t a never w = w.3
 
   rests_step : (q : Plan) (p : Settled) (c : Call S) (s t : State S) (a : Answer S) → q ≡ Firm p → (c ≡ Reopen → ⊥) → Does n has h formulas says q c s a t → t ≡ s
-  rests_step (Open d) p c s t a e never w = let o : ◌≡◌ {A = ℕ} 0 1 = cc in absurd (omega arith)
+  rests_step (Open d) p c s t a e never w = absurd cc
   rests_step (Firm q) p c s t a e never w = rests_on q c s t a never w
 
   rests : (es : List (Event S)) (s t : State S) (p : Settled) → s.plan ≡ Firm p → NoReopen es → Lived s es t → t ≡ s
@@ -95,7 +96,7 @@ module _ {S : Type 0} (n : ℕ) (has : S → Points) (h : House S) (formulas : �
       Lies h.sizes room facts d.count table → length cells ≡ cell_count h.sizes → a ≡ verdict o → SettleDoes n has h formulas says d table cells o cells' → Right facts a
   right facts d table cells cells' (Came p) a l e q w =
       let best : Settles n has h says facts cells' = rw (front h.sizes l) at w.2 in
-      let never : IsContradiction a → ⊥ = λ k. let at = k.1 in let o : ◌≡◌ {A = ℕ} 0 1 = cc in omega arith in
+      let never : IsContradiction a → ⊥ = λ k. let at = k.1 in cc in
       (((λ k. absurd (never k)), λ none. absurd (none (course_of h.sizes has cells') (settled_fits n has h says facts cells' best))), λ _. q)
   right facts d table cells cells' (Failed at k) a l e q w =
       let none : (course : Course) → Fitting n has h says facts course → ⊥ = rw (front h.sizes l) at w.2.none in
@@ -117,8 +118,8 @@ module _ {S : Type 0} (n : ℕ) (has : S → Points) (h : House S) (formulas : �
       Lies h.sizes room facts d.count table → ◌≡◌ {A = Answer S} IsSettled (verdict o) → SettleDoes n has h formulas says d table cells o t.cells →
       t.plan ≡ plan_of o → Firmly facts t
   firm facts d table cells (Came p) t l q w e = (p, e, rw (front h.sizes l) at w.2)
-  firm facts d table cells (Failed at k) t l q w e = let o : ◌≡◌ {A = ℕ} 0 1 = cc in absurd (omega arith)
-  firm facts d table cells (Denied r k) t l q w e = let o : ◌≡◌ {A = ℕ} 0 1 = cc in absurd (omega arith)
+  firm facts d table cells (Failed at k) t l q w e = absurd cc
+  firm facts d table cells (Denied r k) t l q w e = absurd cc
 
   firm_at : (p : Plan) (facts : List (Fact S)) (s t : State S) →
       Holds n has h says room facts p s.table s.cells → Does n has h formulas says p Settle s IsSettled t → Firmly facts t
@@ -206,7 +207,7 @@ module _ {S : Type 0} (n : ℕ) (has : S → Points) (h : House S) (formulas : �
   -- what open leaves holds
   fresh_holds : (table : List (Fact S)) (cells : List S) (s : State S) → length table ≡ room → length cells ≡ cell_count h.sizes → Opened table cells s → Held [] s
   fresh_holds table cells s r e o =
-      rw o.state (record { lies = record { counted = o.fresh; begins = refl; roomy = r; inner = tt }; long = e; rests = tt })
+      rw o.state (record { lies = record { counted = o.fresh; begins = refl; roomy = r; inner = All-nil (IsInside h.sizes) }; long = e; rests = tt })
 
 module _ {S : Type 0} (n : ℕ) (has : S → Points) (h : House S) (formulas : ℕ) (says : ℕ → ℕ → ℕ → Points) where
   pub kept : Accepted n has h formulas → Kept n has h formulas says

@@ -1,16 +1,38 @@
 // Lists of calls, played on a plan through the real calls.
-ghost use Rattle.std.specs.Prelude.{MatchResult};
+ghost use Rattle.std.specs.Prelude.{◌≡◌, MatchResult};
 ghost use Rattle.life.specs.declared.calls.Plan.TheVariants.{Draft as Open, Settled as Firm};
-ghost use Rattle.life.specs.Kinds.{on_draft_lem, on_settled_lem};
+ghost use Rattle.life.specs.Kinds.{plan_of, on_draft_lem, on_settled_lem, told, verdict};
 ghost use Rattle.life.specs.Life.{allows, Plays};
 ghost use Rattle.life.specs.Replayed.{Replayed, Stopped};
 
 use super::{Answer, Call, Plan};
 use book::Book;
 use house::{Fact, House};
-use plan::{Draft, Outcome, Settled};
+use plan::{Draft, Look, Outcome, Refusal, Settled};
 use scale::Scale;
 use std::alloc::{AllocError, Global};
+
+// The answer of a call, or of its refusal.
+fn told<S: Scale>(answered: Result<Answer<S>, Refusal>) -> Answer<S>
+    ensures { result ≡ told (λ answer. answer) answered }
+{
+    match answered {
+        Ok(answer) => answer,
+        Err(refusal) => Answer::Refused(refusal),
+    }
+}
+
+// The plan that settling gives back, and what it answers.
+fn concluded<S: Scale>(outcome: Outcome) -> (Plan, Answer<S>)
+    ensures plan { result.0 ≡ plan_of outcome }
+    ensures answer { result.1 ≡ verdict outcome }
+{
+    match outcome {
+        Outcome::Settled(settled) => (Plan::Settled(settled), Answer::Settled),
+        Outcome::Contradiction { at, draft } => (Plan::Draft(draft), Answer::Contradiction(at)),
+        Outcome::Refused { refusal, draft } => (Plan::Draft(draft), Answer::Refused(refusal)),
+    }
+}
 
 // One call on a draft. Those that the build does not allow there are answered so, and change nothing.
 fn on_draft<S: Scale, B: Book<S>>(
@@ -24,25 +46,20 @@ fn on_draft<S: Scale, B: Book<S>>(
     ensures { Plays S.Scale.size S.Scale.has house.now (B.Book.formulas book.now) (B.Book.says book.now) (on_draft_lem call.now) (Open draft) call.now (record { plan = Open draft; table = facts.old; cells = course.old }) result.1 (record { plan = result.0; table = facts.new; cells = course.new }) }
 {
     match call {
-        Call::File(fact) => match draft.file(house.sizes, facts, *fact) {
-            Ok(()) => (Plan::Draft(draft), Answer::Filed),
-            Err(refusal) => (Plan::Draft(draft), Answer::Refused(refusal)),
-        },
-        Call::Strike(at) => match draft.strike(facts, *at) {
-            Ok(()) => (Plan::Draft(draft), Answer::Struck),
-            Err(refusal) => (Plan::Draft(draft), Answer::Refused(refusal)),
-        },
-        Call::Settle => match draft.settle(house, book, facts, course) {
-            Outcome::Settled(settled) => (Plan::Settled(settled), Answer::Settled),
-            Outcome::Contradiction { at, draft } => (Plan::Draft(draft), Answer::Contradiction(at)),
-            Outcome::Refused { refusal, draft } => (Plan::Draft(draft), Answer::Refused(refusal)),
-        },
-        Call::Look(cell) => match draft.look(house.sizes, course, *cell) {
-            Ok(bound) => (Plan::Draft(draft), Answer::Seen(bound)),
-            Err(refusal) => (Plan::Draft(draft), Answer::Refused(refusal)),
-        },
-        Call::Reopen => (Plan::Draft(draft), Answer::Misplaced),
-        Call::Entails(_) => (Plan::Draft(draft), Answer::Misplaced),
+        Call::File(fact) => {
+            let filed = draft.file(house.sizes, facts, *fact);
+            (Plan::Draft(draft), told(filed.and(Ok(Answer::Filed))))
+        }
+        Call::Strike(at) => {
+            let struck = draft.strike(facts, *at);
+            (Plan::Draft(draft), told(struck.and(Ok(Answer::Struck))))
+        }
+        Call::Settle => concluded(draft.settle(house, book, facts, course)),
+        Call::Look(cell) => {
+            let seen = draft.look(house.sizes, course, *cell);
+            (Plan::Draft(draft), told(seen.map(Answer::Seen)))
+        }
+        Call::Reopen | Call::Entails(_) => (Plan::Draft(draft), Answer::Misplaced),
     }
 }
 
@@ -59,17 +76,18 @@ fn on_settled<S: Scale, B: Book<S>>(
 {
     match call {
         Call::Reopen => (Plan::Draft(settled.reopen()), Answer::Reopened),
-        Call::Look(cell) => match settled.look(house.sizes, course, *cell) {
-            Ok(bound) => (Plan::Settled(settled), Answer::Seen(bound)),
-            Err(refusal) => (Plan::Settled(settled), Answer::Refused(refusal)),
-        },
+        Call::Look(cell) => {
+            let seen = settled.look(house.sizes, course, *cell);
+            (Plan::Settled(settled), told(seen.map(Answer::Seen)))
+        }
+        // Not by map: what that passes may not answer for a scale that its argument does not name.
         Call::Entails(fact) => match settled.entails(house.sizes, course, fact) {
             Ok(yes) => (Plan::Settled(settled), Answer::Entailed(yes)),
             Err(refusal) => (Plan::Settled(settled), Answer::Refused(refusal)),
         },
-        Call::File(_) => (Plan::Settled(settled), Answer::Misplaced),
-        Call::Strike(_) => (Plan::Settled(settled), Answer::Misplaced),
-        Call::Settle => (Plan::Settled(settled), Answer::Misplaced),
+        Call::File(_) | Call::Strike(_) | Call::Settle => {
+            (Plan::Settled(settled), Answer::Misplaced)
+        }
     }
 }
 

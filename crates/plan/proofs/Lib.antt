@@ -1,4 +1,5 @@
 mod Found
+mod Hours
 mod Leading
 mod Shifts
 pub mod Checked

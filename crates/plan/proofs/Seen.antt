@@ -1,6 +1,6 @@
 -- What the cells of a course hold, and whether they satisfy a fact, hour by hour. Assumes nothing.
-use Rattle.std.proofs.Common.{◌≡◌, ℕ, ◌+◌, ◌<◌, ◌≤◌, true, false, eqb, leb, List, length, get_or, sym, refl, ◌∙◌, subst, ⊎_elim, arith}
-use Rattle.std.proofs.lemmas.Bool.{and_parts, and_from, eqb-true, eq-eqb, leb-true, le-leb, both_ways, cases_lt}
+use Rattle.std.proofs.Common.{◌≡◌, ℕ, ◌<◌, ◌≤◌, Bool, true, false, eqb, leb, List, length, get_or, sym, refl, ◌∙◌, subst, ⊎_elim}
+use Rattle.std.proofs.lemmas.Bool.{and_parts, and_from, eqb-true, eq-eqb, leb-true, le-leb, both_ways, cases_Bool}
 use Rattle.points.specs.Points.{Points, Iff, Among, Same, within}
 use Rattle.points.proofs.Decided.{within_decides}
 use Rattle.points.proofs.Tabled.{at_read}
@@ -47,27 +47,22 @@ module _ {S : Type 0} (n : ℕ) (has : S → Points) (low : (x : S) (p : ℕ) �
       ((λ e _ p h. w.0 e p (sym (same p) ∙ h)), λ sat. w.1 (λ p h. sat c p (same p ∙ h)))
 
 module _ {S : Type 0} (has : S → Points) (s : Sizes) (a : Course) (f : Fact S) where
-  -- the fact is satisfied at its hours before this one
-  unfoldable pub Before : ℕ → Type 0
-  Before hour = (t : ℕ) → f.from ≤ t → t < hour → SatisfiesAt has s a f t
-
-  pub before_none : Before f.from
-  unfolding Before
-  before_none t low high = absurd (omega arith)
-
-  pub before_more : (hour : ℕ) → Before hour → SatisfiesAt has s a f hour → Before (hour + 1)
-  unfolding Before
-  before_more hour before here t low high =
-      ⊎_elim (λ l. before t low l) (λ l. let e : hour ≡ t = omega arith in subst (λ (k : ℕ). SatisfiesAt has s a f k) e here) (cases_lt t hour)
-
-  pub before_all : (hour : ℕ) → f.to < hour → Before hour → Satisfies has s a f
-  unfolding Before Satisfies SatisfiesAt
-  before_all hour past before t c l i cov =
+  from_hours : ((hour : ℕ) → f.from ≤ hour → hour ≤ f.to → SatisfiesAt has s a f hour) → Satisfies has s a f
+  unfolding Satisfies SatisfiesAt
+  from_hours every t c l i cov =
       let u = covers_use t c l f cov in
       let P : ℕ → ℕ → Type 0 = λ c l. Cell s t c l → Among (a t c l) (has f.bound) in
-      let here : P f.component f.label = before t u.2 (omega (arith, u.3)) in
+      let here : P f.component f.label = every t u.2 u.3 in
       subst (λ (c : ℕ). P c l) u.0 (subst (λ (l : ℕ). P f.component l) u.1 here) i
 
-  pub at_one : (hour : ℕ) → f.from ≤ hour → hour ≤ f.to → Satisfies has s a f → SatisfiesAt has s a f hour
+  at_hour : (hour : ℕ) → f.from ≤ hour → hour ≤ f.to → Satisfies has s a f → SatisfiesAt has s a f hour
   unfolding Satisfies SatisfiesAt
-  at_one hour low high sat i = sat hour f.component f.label i (covers_from hour f low high)
+  at_hour hour low high sat i = sat hour f.component f.label i (covers_from hour f low high)
+
+  -- a test that asks at each hour of a fact says whether it is satisfied
+  pub hours_decide : (b : Bool) → (b ≡ true → (hour : ℕ) → f.from ≤ hour → hour ≤ f.to → SatisfiesAt has s a f hour) →
+      (b ≡ false → (hour : ℕ) × (f.from ≤ hour) × (hour ≤ f.to) × (SatisfiesAt has s a f hour → ⊥)) → Iff (b ≡ true) (Satisfies has s a f)
+  hours_decide b every some = (
+    (λ e. from_hours (every e)),
+    λ sat. ⊎_elim (λ e. e) (λ e. let w = some e in absurd (w.3 (at_hour w.0 w.1 w.2 sat))) (cases_Bool b),
+  )

@@ -40,11 +40,8 @@ impl Draft {
     {
         require(self.count <= facts.len(), Refusal::Short)?;
         require(at < self.count, Refusal::NoFact)?;
-        let last = self.count - 1;
-        for k in at..last {
-            facts[k] = facts[k + 1];
-        }
-        self.count = last;
+        facts.copy_within(at + 1..self.count, at);
+        self.count -= 1;
         Ok(())
     }
 }

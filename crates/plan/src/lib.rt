@@ -19,6 +19,7 @@ mod refusals;
 mod settling;
 
 use book::Book;
+pub use cells::Look;
 pub use outcomes::{Clash, Outcome};
 pub use refusals::Refusal;
 use scale::Scale;

@@ -1,5 +1,6 @@
 // Settling a draft.
-ghost use Rattle.std.specs.Prelude.{[], ◌∷◌};
+ghost use Rattle.std.specs.Prelude.{◌≡◌, [], ◌∷◌, not, position};
+ghost use Rattle.house.specs.Cells.{fact_inside};
 ghost use Rattle.plan.specs.Calls.{SettleDoes};
 ghost use Rattle.plan.specs.Orders.{Checked, facts_fit, settle_checks};
 ghost use Rattle.plan.specs.Courses.{Clashes};
@@ -11,16 +12,21 @@ use examining::{examine, require};
 use house::{Cell, Fact, House, Sizes};
 use scale::Scale;
 
+// The place of the first of the filed facts that is outside the house.
+fn outside<S: Scale>(sizes: Sizes, filed: &[Fact<S>]) -> Option<usize>
+    ensures { result ≡ position (λ fact. not (fact_inside sizes fact)) filed.now }
+{
+    filed.iter().position(|fact| !fact.inside(sizes))
+}
+
 // Refuses the first of the filed facts that is outside the house, by its place.
 fn check_facts<S: Scale>(sizes: Sizes, filed: &[Fact<S>]) -> Result<(), Refusal>
     ensures { Checked (facts_fit sizes filed.now ∷ []) result }
 {
-    for (at, fact) in filed.iter().enumerate() {
-        if !fact.inside(sizes) {
-            return Err(Refusal::Outside { at });
-        }
+    match outside(sizes, filed) {
+        Some(at) => Err(Refusal::Outside { at }),
+        None => Ok(()),
     }
-    Ok(())
 }
 
 // Whether a plan of `count` facts can be settled on a course of `long` cells.
@@ -44,10 +50,9 @@ fn check_settle<S: Scale, B: Book<S>>(
 fn clash(sizes: Sizes, cell: Cell) -> Clash
     ensures { Clashes sizes cell result }
 {
-    let place = sizes.place(cell);
     Clash {
         cell,
-        place: place.unwrap_or(0),
+        place: sizes.place(cell).unwrap_or(0),
     }
 }
 

@@ -1,23 +1,15 @@
-use Rattle.std.proofs.Common.{refl, arith}
-use Rattle.std.proofs.lemmas.Bool.{false≢true}
-use Rattle.plan.proofs.Seen.{before_none, before_more, before_all, at_one}
+use Rattle.std.proofs.Common.{ℕ, rules, arith}
+use Rattle.fitting.specs.Course.{course_of}
+use Rattle.plan.specs.Courses.{SatisfiesAt}
+use Rattle.plan.proofs.Hours.{all_of_range}
+use Rattle.plan.proofs.Seen.{hours_decide}
 use Rattle.plan.proofs.cells.satisfied.Goals as goal
 
-pub loop-hour-init : goal.loop-hour-init
-loop-hour-init g c = before_none _ _ _ _
-
-pub returns-then-not-satisfied_at : goal.returns-then-not-satisfied_at
-returns-then-not-satisfied_at g c =
-    ((λ e. absurd (false≢true e)), λ sat. c.if-not-satisfied_at.ensures.1 (at_one _ _ _ _ c.loop-hour.hour (omega arith) (omega arith) sat))
-
-pub loop-hour-preserved : goal.loop-hour-preserved
-loop-hour-preserved g c = before_more _ _ _ _ c.loop-hour.hour c.loop-hour.invariant (c.if-not-satisfied_at.ensures.0 refl)
-
 pub returns : goal.returns
-returns g c = ((λ _. before_all _ _ _ _ c.loop-hour.hour c.loop-hour-test.false c.loop-hour.invariant), λ _. refl)
-
-pub returns-else-not-satisfied_at : goal.returns-else-not-satisfied_at
-returns-else-not-satisfied_at g c = (
-  (λ _. before_all _ _ _ _ _ (omega arith) (before_more _ _ _ _ c.loop-hour.hour c.loop-hour.invariant (c.if-not-satisfied_at.ensures.0 refl))),
-  λ _. refl,
-)
+returns g c =
+    let A : ℕ → Type 0 = SatisfiesAt g.S.Scale.has c.args.sizes (course_of c.args.sizes g.S.Scale.has c.args.course.now) c.args.fact.now in
+    let tells = all_of_range c.new.result _ _ c.all.result A (λ hour. A hour → ⊥) c.new.ensures.exhausted c.all.ensures.ran
+    (λ hour q k. search rules) (λ hour q k. search rules) in
+    hours_decide _ _ _ _ c.all.result
+    (λ e hour low high. tells.0 e hour (omega (arith, c.new.ensures.start)) (omega (arith, c.new.ensures.end)))
+    (λ e. let w = tells.1 e in (w.0, omega (arith, c.new.ensures.start, w.1), omega (arith, c.new.ensures.end, w.2), w.3))

@@ -1,11 +1,9 @@
-use Rattle.std.proofs.Common.{true, sym, refl, ◌∙◌, inl, below_more}
-use Rattle.points.proofs.Tabled.{at_read}
+use Rattle.std.proofs.Common.{sym, refl, ◌∙◌, inl}
+use Rattle.examining.proofs.Lowest.{lowest_position}
 use Rattle.plan.proofs.settling.check_facts.Goals as goal
 
-pub returns-then-not-inside : goal.returns-then-not-inside
-returns-then-not-inside g c =
-    inl (refl, (c.loop-at-test.true, at_read true _ _ _ _ c.loop-at-test.true c.index-filed-at.is ∙ sym c.if-not-inside.ensures, c.loop-at.invariant))
+pub returns-in-Some : goal.returns-in-Some
+returns-in-Some g c = inl (refl, lowest_position _ _ (λ x. refl) c.args.filed.now _ (sym c.in-Some.is ∙ c.outside.ensures))
 
-pub loop-at-preserved : goal.loop-at-preserved
-loop-at-preserved g c =
-    below_more _ _ c.loop-at.invariant (at_read true _ _ _ _ c.loop-at-test.true c.index-filed-at.is ∙ sym c.if-not-inside.ensures)
+pub returns-in-None : goal.returns-in-None
+returns-in-None g c = (lowest_position _ _ (λ x. refl) c.args.filed.now _ (sym c.in-None.is ∙ c.outside.ensures), tt)
