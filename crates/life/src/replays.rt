@@ -80,7 +80,7 @@ fn on_settled<S: Scale, B: Book<S>>(
             let seen = settled.look(house.sizes, course, *cell);
             (Plan::Settled(settled), told(seen.map(Answer::Seen)))
         }
-        // Not by map: what that passes may not answer for a scale that its argument does not name.
+        // A match: a function that is passed on may not make a type whose scale its argument does not name.
         Call::Entails(fact) => match settled.entails(house.sizes, course, fact) {
             Ok(yes) => (Plan::Settled(settled), Answer::Entailed(yes)),
             Err(refusal) => (Plan::Settled(settled), Answer::Refused(refusal)),
