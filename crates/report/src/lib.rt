@@ -2,39 +2,22 @@
 #![tactic(auto)]
 
 ghost use Rattle.std.specs.Prelude.{◌≡◌, IfOk, OnOk, string_bytes};
-ghost use Rattle.report.specs.Text.{refused_line, clash_line, Texted, Concluded, Told, Reported, Ran};
+ghost use Rattle.report.specs.Text.{Texted, Concluded, Told, Reported, Ran};
 
 use anyhow::bail;
 use book::{Book, Quorum, Stairs};
 use house::{Fact, House};
 use listing::listing;
-use plan::{Clash, Draft, Outcome};
+use plan::{Draft, Outcome};
 use record::{Content, read};
 use record_entry::Tables;
 use scale::{Recorded, Scale};
-use std::alloc::{AllocError, Global};
+use std::alloc::Global;
 use std::io::{Read, Write};
-use workspace::{Workspace, copies, front, house_of};
+use workspace::{Workspace, copies, house_of};
 
 // How many cells are held at most.
 const CELLS: usize = 8192;
-
-// The line of a refusal.
-fn refused(heap: Global, number: u8, place: usize) -> Result<String, AllocError>
-    ensures { IfOk result (λ s. string_bytes s ≡ refused_line number place) }
-{
-    format!(in heap; "refused {number} {place}\n")
-}
-
-// The line of a contradiction.
-fn clash(heap: Global, at: Clash) -> Result<String, AllocError>
-    ensures { IfOk result (λ s. string_bytes s ≡ clash_line at.hour at.component at.label) }
-{
-    let hour = at.hour;
-    let component = at.component;
-    let label = at.label;
-    format!(in heap; "contradiction {hour} {component} {label}\n")
-}
 
 // Settles a draft, and gives the text for what that came to.
 fn settled_text<S: Recorded, B: Book<S>>(
@@ -50,8 +33,8 @@ fn settled_text<S: Recorded, B: Book<S>>(
     let sizes = house.sizes;
     match draft.settle(house, book, facts, course) {
         Outcome::Settled(_plan) => Ok(listing(heap, sizes, course)?),
-        Outcome::Contradiction { at, .. } => Ok(clash(heap, at)?),
-        Outcome::Refused { refusal, .. } => Ok(refused(heap, refusal.number(), refusal.place())?),
+        Outcome::Contradiction { at, .. } => Ok(format!(in heap; "{at}\n")?),
+        Outcome::Refused { refusal, .. } => Ok(format!(in heap; "{refusal}\n")?),
     }
 }
 
@@ -68,10 +51,9 @@ fn conclude<S: Recorded>(
         draft,
         sizes,
         quorum,
-        counts,
     } = content;
-    let house = house_of(sizes, counts, tables);
-    let stairs: Stairs<S> = Stairs::over(front(tables.steps, counts.steps));
+    let house = house_of(sizes, tables);
+    let stairs: Stairs<S> = Stairs::over(tables.steps.records());
     let Ok(book) = Quorum::new(quorum, stairs) else {
         bail!("the quorum is above 200");
     };
@@ -85,7 +67,7 @@ fn told<S: Recorded>(heap: Global, bytes: &[u8], tables: &mut Tables<S>) -> anyh
 {
     match read(bytes, tables) {
         Ok(content) => conclude(heap, content, tables),
-        Err(fault) => Ok(refused(heap, fault.number(), fault.place())?),
+        Err(fault) => Ok(format!(in heap; "{fault}\n")?),
     }
 }
 

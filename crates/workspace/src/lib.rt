@@ -1,12 +1,12 @@
 // What a program holds while it works on a record file: room for the tables, and the house that a file describes there.
 #![tactic(auto)]
 
-ghost use Rattle.std.specs.Prelude.{◌≡◌, take, replicate, IfOk};
+ghost use Rattle.std.specs.Prelude.{◌≡◌, replicate, IfOk};
 ghost use Rattle.workspace.specs.Spaces.{Roomy, Housed, Lent};
 
 use book::Stair;
-use house::{Body, Condition, Constraint, Edge, Fact, House, Rule, Sizes, Test};
-use record_entry::{Counts, Tables};
+use house::{Body, Condition, Constraint, Edge, Fact, House, Kind, Rule, Sizes, Test};
+use record_entry::{Shelf, Tables};
 use scale::Scale;
 use std::alloc::{AllocError, Global};
 
@@ -58,18 +58,18 @@ impl<S: Scale> Workspace<S> {
         })
     }
 
-    // Lends the room as the tables that a file is read into. What it holds afterwards is left open.
+    // Lends the room as tables without records, for a file to be read into. What it holds afterwards is left open.
     pub fn tables(&mut self) -> Tables<'_, S>
         ensures { Lent self.old result }
     {
         Tables {
-            edges: &mut self.edges,
-            fixed: &mut self.fixed,
-            tests: &mut self.tests,
-            conditions: &mut self.conditions,
-            constraints: &mut self.constraints,
-            rules: &mut self.rules,
-            steps: &mut self.steps,
+            edges: Shelf::over(&mut self.edges),
+            fixed: Shelf::over(&mut self.fixed),
+            tests: Shelf::over(&mut self.tests),
+            conditions: Shelf::over(&mut self.conditions),
+            constraints: Shelf::over(&mut self.constraints),
+            rules: Shelf::over(&mut self.rules),
+            steps: Shelf::over(&mut self.steps),
             facts: &mut self.facts,
         }
     }
@@ -84,7 +84,7 @@ fn blank_test<S: Scale>() -> Test<S> {
 
 fn blank_condition() -> Condition {
     Condition {
-        kind: 0,
+        kind: Kind::Test,
         a: 0,
         b: 0,
     }
@@ -101,9 +101,9 @@ fn blank_rule() -> Rule {
     Rule {
         target: 0,
         delay: 0,
-        onto: 0,
-        along: 0,
-        source: 0,
+        onto: None,
+        along: None,
+        source: None,
         body: Body { first: 0, count: 0 },
         formula: 0,
     }
@@ -134,28 +134,17 @@ pub fn copies<T: Copy>(heap: Global, x: T, n: usize) -> Result<Vec<T>, AllocErro
     (0..n).map(|_i| x).collect(heap)
 }
 
-// The front of a table: its first n records, or all if there are fewer.
-pub fn front<T>(table: &[T], n: usize) -> &[T]
-    ensures { result.now ≡ take n table.now }
-{
-    table.get(..n).unwrap_or(table)
-}
-
 // The house of these sizes whose tables are the records that were read.
-pub fn house_of<'a, S: Scale>(
-    sizes: Sizes,
-    counts: Counts,
-    tables: &'a Tables<'_, S>,
-) -> House<'a, S>
-    ensures { Housed sizes counts tables.now result }
+pub fn house_of<'a, S: Scale>(sizes: Sizes, tables: &'a Tables<'_, S>) -> House<'a, S>
+    ensures { Housed sizes tables.now result }
 {
     House {
         sizes,
-        edges: front(tables.edges, counts.edges),
-        fixed: front(tables.fixed, counts.fixed),
-        tests: front(tables.tests, counts.tests),
-        conditions: front(tables.conditions, counts.conditions),
-        constraints: front(tables.constraints, counts.constraints),
-        rules: front(tables.rules, counts.rules),
+        edges: tables.edges.records(),
+        fixed: tables.fixed.records(),
+        tests: tables.tests.records(),
+        conditions: tables.conditions.records(),
+        constraints: tables.constraints.records(),
+        rules: tables.rules.records(),
     }
 }
