@@ -18,6 +18,17 @@ pub record Roomy {S : Type 0} (w : Workspace S) : Type 0 where
   pub steps : vec_len w.steps ≡ 256
   pub facts : vec_len w.facts ≡ 1000
 
+-- tables that hold what a workspace holds
+pub record Lent {S : Type 0} (w : Workspace S) (t : Tables S) : Type 0 where
+  pub edges : t.edges.now ≡ w.edges.items
+  pub fixed : t.fixed.now ≡ w.fixed.items
+  pub tests : t.tests.now ≡ w.tests.items
+  pub conditions : t.conditions.now ≡ w.conditions.items
+  pub constraints : t.constraints.now ≡ w.constraints.items
+  pub rules : t.rules.now ≡ w.rules.items
+  pub steps : t.steps.now ≡ w.steps.items
+  pub facts : t.facts.now ≡ w.facts.items
+
 -- the house that a file describes: its sizes, and of each table the records that were read
 pub record Housed {S : Type 0} (s : Sizes) (n : Counts) (t : Tables S) (h : House S) : Type 0 where
   pub sizes : h.sizes ≡ s

@@ -2,13 +2,31 @@
 #![tactic(auto)]
 
 ghost use Rattle.std.specs.Prelude.{◌≡◌, take, replicate, IfOk};
-ghost use Rattle.workspace.specs.Spaces.{Roomy, Housed};
+ghost use Rattle.workspace.specs.Spaces.{Roomy, Housed, Lent};
 
 use book::Stair;
 use house::{Body, Condition, Constraint, Edge, Fact, House, Rule, Sizes, Test};
 use record_entry::{Counts, Tables};
 use scale::Scale;
 use std::alloc::{AllocError, Global};
+
+// For how many records of each kind there is room.
+const EDGES: usize = 600;
+
+// All fixed bounds of the largest house.
+const FIXED: usize = 12_800;
+
+const TESTS: usize = 64;
+
+const CONDITIONS: usize = 64;
+
+const CONSTRAINTS: usize = 64;
+
+const RULES: usize = 64;
+
+const STEPS: usize = 256;
+
+const FACTS: usize = 1000;
 
 // Room for the tables of a file.
 #[derive(Drop)]
@@ -28,24 +46,32 @@ impl<S: Scale> Workspace<S> {
     pub fn new(heap: Global) -> Result<Workspace<S>, AllocError>
         ensures { IfOk result Roomy }
     {
-        let edges = copies(heap, Edge { from: 0, to: 0 }, 600)?;
-        let fixed = copies(heap, S::loose(), 12_800)?;
-        let tests = copies(heap, blank_test(), 64)?;
-        let conditions = copies(heap, blank_condition(), 64)?;
-        let constraints = copies(heap, blank_constraint(), 64)?;
-        let rules = copies(heap, blank_rule(), 64)?;
-        let steps = copies(heap, blank_step(), 256)?;
-        let facts = copies(heap, blank_fact(), 1000)?;
         Ok(Workspace {
-            edges,
-            fixed,
-            tests,
-            conditions,
-            constraints,
-            rules,
-            steps,
-            facts,
+            edges: copies(heap, Edge { from: 0, to: 0 }, EDGES)?,
+            fixed: copies(heap, S::loose(), FIXED)?,
+            tests: copies(heap, blank_test(), TESTS)?,
+            conditions: copies(heap, blank_condition(), CONDITIONS)?,
+            constraints: copies(heap, blank_constraint(), CONSTRAINTS)?,
+            rules: copies(heap, blank_rule(), RULES)?,
+            steps: copies(heap, blank_step(), STEPS)?,
+            facts: copies(heap, blank_fact(), FACTS)?,
         })
+    }
+
+    // Lends the room as the tables that a file is read into. What it holds afterwards is left open.
+    pub fn tables(&mut self) -> Tables<'_, S>
+        ensures { Lent self.old result }
+    {
+        Tables {
+            edges: &mut self.edges,
+            fixed: &mut self.fixed,
+            tests: &mut self.tests,
+            conditions: &mut self.conditions,
+            constraints: &mut self.constraints,
+            rules: &mut self.rules,
+            steps: &mut self.steps,
+            facts: &mut self.facts,
+        }
     }
 }
 
@@ -105,18 +131,14 @@ fn blank_fact<S: Scale>() -> Fact<S> {
 pub fn copies<T: Copy>(heap: Global, x: T, n: usize) -> Result<Vec<T>, AllocError>
     ensures { IfOk result (λ v. v.items ≡ replicate n x) }
 {
-    let mut v = Vec::new(heap);
-    for _i in 0..n {
-        v.push(x)?;
-    }
-    Ok(v)
+    (0..n).map(|_i| x).collect(heap)
 }
 
 // The front of a table: its first n records, or all if there are fewer.
 pub fn front<T>(table: &[T], n: usize) -> &[T]
     ensures { result.now ≡ take n table.now }
 {
-    if n < table.len() { &table[0..n] } else { table }
+    table.get(..n).unwrap_or(table)
 }
 
 // The house of these sizes whose tables are the records that were read.
