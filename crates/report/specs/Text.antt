@@ -19,6 +19,7 @@ use Rattle.record.specs.declared.faults.Fault.{Fault}
 use Rattle.record.specs.declared.reading.Content.{Content}
 use Rattle.record.specs.Faults as faults
 use Rattle.record.specs.Reads.{ReadDoes}
+use Rattle.workspace.specs.Spaces.{Housed}
 
 -- the line of a refusal: its number and its place
 abbrev pub refused_line : ℕ → ℕ → List ℕ
@@ -45,16 +46,6 @@ module _ {S : Type 0} (n : ℕ) (has : S → Points) (form : S → List ℕ) whe
   Texted h formulas says draft table cells text =
       (cells' : List S) × (o : Outcome) × SettleDoes n has h formulas says draft table cells o cells' × (text ≡ outcome_text h.sizes o cells')
 
-  -- the house that a file describes: its sizes, and of each table the records that were read
-  pub record Housed (x : Content) (t : Tables S) (h : House S) : Type 0 where
-    pub sizes : h.sizes ≡ x.sizes
-    pub edges : h.edges.now ≡ take x.counts.edges t.edges.now
-    pub fixed : h.fixed.now ≡ take x.counts.fixed t.fixed.now
-    pub tests : h.tests.now ≡ take x.counts.tests t.tests.now
-    pub conditions : h.conditions.now ≡ take x.counts.conditions t.conditions.now
-    pub constraints : h.constraints.now ≡ take x.counts.constraints t.constraints.now
-    pub rules : h.rules.now ≡ take x.counts.rules t.rules.now
-
   -- the steps that were read, and what their stairs say under the file's quorum
   abbrev pub steps_read : Content → Tables S → List (Stair S)
   steps_read x t = take x.counts.steps t.steps.now
@@ -65,7 +56,7 @@ module _ {S : Type 0} (n : ℕ) (has : S → Points) (form : S → List ℕ) whe
   -- the text of a file that is read: what its draft comes to, in the house and with the stairs that it describes
   abbrev pub Concluded : Content → Tables S → List ℕ → Type 0
   Concluded x t text =
-      (h : House S) × Housed x t h
+      (h : House S) × Housed x.sizes x.counts t h
       × ((cells : List S) × (length cells ≡ room x.sizes)
       × Texted h (formulas_of (λ s. s.formula) (steps_read x t)) (stairs_say (steps_read x t) x.quorum) x.draft t.facts.now cells text)
 

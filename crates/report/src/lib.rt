@@ -1,18 +1,19 @@
 // From the bytes of a record file to the text that the programs print.
 #![tactic(auto)]
 
-ghost use Rattle.std.specs.Prelude.{◌≡◌, length, take, IfOk, vec_len, string_bytes};
+ghost use Rattle.std.specs.Prelude.{◌≡◌, IfOk, string_bytes};
 ghost use Rattle.report.specs.Text.{refused_line, clash_line, Texted, Concluded, Told, Reported};
 
-use anyhow::anyhow;
-use book::{Book, Quorum, Stair, Stairs};
-use house::{Body, Condition, Constraint, Edge, Fact, House, Rule, Test};
+use anyhow::bail;
+use book::{Book, Quorum, Stairs};
+use house::{Fact, House};
 use listing::listing;
 use plan::{Clash, Draft, Outcome};
 use record::{Content, read};
 use record_entry::Tables;
 use scale::{Recorded, Scale};
 use std::alloc::{AllocError, Global};
+use workspace::{Workspace, copies, front, house_of};
 
 // How many cells are held at most.
 const CELLS: usize = 8192;
@@ -32,24 +33,6 @@ fn clash(heap: Global, at: Clash) -> Result<String, AllocError>
     let component = at.component;
     let label = at.label;
     format!(in heap; "contradiction {hour} {component} {label}\n")
-}
-
-// The front of a table: its first n records, or all if there are fewer.
-fn front<T>(table: &[T], n: usize) -> &[T]
-    ensures { result.now ≡ take n table.now }
-{
-    if n < table.len() { &table[0..n] } else { table }
-}
-
-// As many copies of a value.
-fn copies<T: Copy>(heap: Global, x: T, n: usize) -> Result<Vec<T>, AllocError>
-    ensures { IfOk result (λ v. vec_len v ≡ n) }
-{
-    let mut v = Vec::new(heap);
-    for _i in 0..n {
-        v.push(x)?;
-    }
-    Ok(v)
 }
 
 // Settles a draft, and gives the text for what that came to.
@@ -86,18 +69,10 @@ fn conclude<S: Recorded>(
         quorum,
         counts,
     } = content;
-    let house = House {
-        sizes,
-        edges: front(tables.edges, counts.edges),
-        fixed: front(tables.fixed, counts.fixed),
-        tests: front(tables.tests, counts.tests),
-        conditions: front(tables.conditions, counts.conditions),
-        constraints: front(tables.constraints, counts.constraints),
-        rules: front(tables.rules, counts.rules),
-    };
+    let house = house_of(sizes, counts, tables);
     let stairs: Stairs<S> = Stairs::over(front(tables.steps, counts.steps));
     let Ok(book) = Quorum::new(quorum, stairs) else {
-        return Err(anyhow!("the quorum is above 200"));
+        bail!("the quorum is above 200");
     };
     let mut course = copies(heap, S::loose(), sizes.cells().min(CELLS))?;
     settled_text(heap, &house, &book, draft, tables.facts, &mut course)
@@ -117,60 +92,6 @@ fn told<S: Recorded>(heap: Global, bytes: &[u8], tables: &mut Tables<S>) -> anyh
 pub fn report<S: Recorded>(heap: Global, bytes: &[u8]) -> anyhow::Result<String>
     ensures { IfOk result (λ s. Reported S.Scale.size S.Scale.has S.Recorded.form bytes.now (string_bytes s)) }
 {
-    let bound = S::loose();
-    let body = Body { first: 0, count: 0 };
-    let rule = Rule {
-        target: 0,
-        delay: 0,
-        onto: 0,
-        along: 0,
-        source: 0,
-        body,
-        formula: 0,
-    };
-    let mut edges = copies(heap, Edge { from: 0, to: 0 }, 600)?;
-    let mut fixed = copies(heap, bound, 12_800)?;
-    let mut tests = copies(heap, Test { label: 0, bound }, 64)?;
-    let mut conditions = copies(
-        heap,
-        Condition {
-            kind: 0,
-            a: 0,
-            b: 0,
-        },
-        64,
-    )?;
-    let mut constraints = copies(heap, Constraint { head: 0, body }, 64)?;
-    let mut rules = copies(heap, rule, 64)?;
-    let mut steps = copies(
-        heap,
-        Stair {
-            formula: 0,
-            share: 0,
-            bound,
-        },
-        256,
-    )?;
-    let mut facts = copies(
-        heap,
-        Fact {
-            component: 0,
-            label: 0,
-            bound,
-            from: 0,
-            to: 0,
-        },
-        1000,
-    )?;
-    let mut tables = Tables {
-        edges: &mut edges,
-        fixed: &mut fixed,
-        tests: &mut tests,
-        conditions: &mut conditions,
-        constraints: &mut constraints,
-        rules: &mut rules,
-        steps: &mut steps,
-        facts: &mut facts,
-    };
-    told(heap, bytes, &mut tables)
+    let mut space = Workspace::<S>::new(heap)?;
+    told(heap, bytes, &mut space.tables())
 }
