@@ -1,5 +1,6 @@
 -- The text that a program prints for a record file.
-use Rattle.std.specs.Prelude.{◌≡◌, ℕ, min, List, ◌++◌, length, take, Ok, Err, codes, decimal, Result}
+use Rattle.std.specs.Prelude.{◌≡◌, ℕ, min, List, ◌++◌, length, take, Ok, Err, codes, decimal, Option, Result}
+use Rattle.std.specs.Io.KnownBytes.{Consumes, IsAtEnd, Appends}
 use Rattle.points.specs.Points.{Points}
 use Rattle.book.specs.Steps.{formulas_of, share_reached, said}
 use Rattle.book.specs.Quorums.{quorate}
@@ -84,3 +85,9 @@ pub record Rooms {S : Type 0} (t : Tables S) : Type 0 where
 -- the text that a program prints for a file
 abbrev pub Reported : {S : Type 0} → ℕ → (S → Points) → (S → List ℕ) → List ℕ → List ℕ → Type 0
 Reported {S} n has form bytes text = (t : Tables S) × Rooms t × Told n has form bytes t text
+
+-- a file was read to its end, and its text was written: what is known of the bytes that are left to read, and of those that
+-- are written, before and afterwards
+abbrev pub Ran : {S : Type 0} → ℕ → (S → Points) → (S → List ℕ) → Option (List ℕ) → Option (List ℕ) → Option (List ℕ) → Option (List ℕ) → Type 0
+Ran n has form given left old new =
+    (bytes : List ℕ) × Consumes given left bytes × IsAtEnd left × ((text : List ℕ) × Reported n has form bytes text × Appends old new text)

@@ -1,8 +1,8 @@
 // From the bytes of a record file to the text that the programs print.
 #![tactic(auto)]
 
-ghost use Rattle.std.specs.Prelude.{◌≡◌, IfOk, string_bytes};
-ghost use Rattle.report.specs.Text.{refused_line, clash_line, Texted, Concluded, Told, Reported};
+ghost use Rattle.std.specs.Prelude.{◌≡◌, IfOk, OnOk, string_bytes};
+ghost use Rattle.report.specs.Text.{refused_line, clash_line, Texted, Concluded, Told, Reported, Ran};
 
 use anyhow::bail;
 use book::{Book, Quorum, Stairs};
@@ -13,6 +13,7 @@ use record::{Content, read};
 use record_entry::Tables;
 use scale::{Recorded, Scale};
 use std::alloc::{AllocError, Global};
+use std::io::{Read, Write};
 use workspace::{Workspace, copies, front, house_of};
 
 // How many cells are held at most.
@@ -94,4 +95,34 @@ pub fn report<S: Recorded>(heap: Global, bytes: &[u8]) -> anyhow::Result<String>
 {
     let mut space = Workspace::<S>::new(heap)?;
     told(heap, bytes, &mut space.tables())
+}
+
+// Reads a record file, whole, and writes its text.
+pub fn run<S: Recorded, R: Read, W: Write>(
+    heap: Global,
+    input: &mut R,
+    output: &mut W,
+) -> anyhow::Result<()>
+    ensures { OnOk result (Ran S.Scale.size S.Scale.has S.Recorded.form (R.remaining input.old) (R.remaining input.new) (W.contents output.old) (W.contents output.new)) }
+{
+    let mut bytes = Vec::new(heap);
+    let _ = input.read_to_end(&mut bytes)?;
+    let text = report::<S>(heap, &bytes)?;
+    output.write_all(text.as_bytes())?;
+    Ok(())
+}
+
+#[cfg(test)]
+mod tests {
+    use super::*;
+    use scale::Modes;
+
+    #[test]
+    fn a_file_from_memory_is_told(rt: HostRuntime) -> anyhow::Result<()> {
+        let mut file: &[u8] = b"no record file";
+        let mut text = Vec::new(rt.alloc());
+        run::<Modes, _, _>(rt.alloc(), &mut file, &mut text)?;
+        assert_eq!(rt; text.as_slice(), b"refused 21 0\n".as_slice());
+        Ok(())
+    }
 }
