@@ -43,9 +43,9 @@ fn shutdown(heap: Global) -> anyhow::Result<Vec<Call<Thousandths>>> {
         Call::File(known(SOUTH, 900, 1000, 0)?),
         Call::Settle,
     ]?;
-    calls.extend((0..=LAST).flat_map(|hour| (NORTH..=LIFT).map(move |component| look(
-        hour, component,
-    ))))?;
+    for hour in 0..=LAST {
+        calls.extend((NORTH..=LIFT).map(|component| look(hour, component)))?;
+    }
     calls.extend([
         Call::Entails(known(LIFT, 0, 500, 1)?),
         Call::Entails(known(LIFT, 0, 500, 0)?),
@@ -78,7 +78,7 @@ fn play(rt: &HostRuntime) -> anyhow::Result<()> {
     Ok(())
 }
 
-fn tour(rt: &HostRuntime) -> anyhow::Result<()> {
+fn main(rt: HostRuntime) -> anyhow::Result<()> {
     println!(rt;
         "Two switchboards feed a lift. Supply is bounded in thousandths of what a part needs."
     )?;
@@ -89,9 +89,5 @@ fn tour(rt: &HostRuntime) -> anyhow::Result<()> {
         "The north board is shut down in hour 0, and the south board is known to be well supplied."
     )?;
     println!(rt)?;
-    play(rt)
-}
-
-fn main(rt: HostRuntime) -> anyhow::Result<()> {
-    tour(&rt)
+    play(&rt)
 }
