@@ -28,7 +28,7 @@ fn put_line(out: &mut String, sizes: Sizes, at: usize, form: [u8; 4]) -> fmt::Re
     let [a0, a1, b0, b1] = form;
     let a = u16::from_be_bytes([a0, a1]);
     let b = u16::from_be_bytes([b0, b1]);
-    write!(out, "{hour} {component} {label} {a} {b}\n")?;
+    writeln!(out, "{hour} {component} {label} {a} {b}")?;
     Ok(())
 }
 
