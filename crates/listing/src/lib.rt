@@ -1,7 +1,7 @@
 // The listing of a course: a line for each cell that is not loose, in the order of cells.
 #![tactic(auto)]
 
-ghost use Rattle.std.specs.Prelude.{◌≡◌, ◌++◌, length, IfOk, string_bytes, OnOk};
+ghost use Rattle.std.specs.Prelude.{◌≡◌, ◌++◌, IfOk, string_bytes, OnOk};
 ghost use Rattle.listing.specs.Lines.{cell_line, line_of, listing_of};
 
 use house::Sizes;
@@ -21,7 +21,7 @@ fn put_line(out: &mut String, sizes: Sizes, at: usize, form: [u8; 4]) -> fmt::Re
     let [a0, a1, b0, b1] = form;
     let a = u16::from_be_bytes([a0, a1]);
     let b = u16::from_be_bytes([b0, b1]);
-    write!(out, "{hour} {component} {label} {a} {b}\n")?;
+    writeln!(out, "{hour} {component} {label} {a} {b}")?;
     Ok(())
 }
 
