@@ -24,7 +24,8 @@ pub use outcomes::{Clash, Outcome};
 pub use refusals::Refusal;
 use scale::Scale;
 
-// A plan that takes filings: the first `count` facts of its table are filed.
+// A plan that takes filings: the first `count` facts of its table are filed. The table is the caller's, since a plan
+// allocates nothing.
 #[derive(Drop)]
 pub struct Draft {
     count: usize,
