@@ -1,9 +1,8 @@
 -- A file that is read: its frame, the loose places, and the records that are taken. Assumes nothing.
 use Rattle.std.proofs.Common.{◌≡◌, ℕ, List, [], length, get_or, Some, None, Ok, Err, Option, refl, ap, ◌∙◌, subst}
 use Rattle.points.specs.Points.{Points, Loose}
-use Rattle.examining.specs.declared.defects.Defect.{Defect}
 use Rattle.house.specs.declared.tables.Sizes.{Sizes}
-use Rattle.examining.specs.Examine.{Clear, Found, size_check}
+use Rattle.examining.specs.Examine.{Clear, size_check}
 use Rattle.plan.specs.declared.Draft.{Draft}
 use Rattle.record_line.specs.declared.Record.{Record}
 use Rattle.record_line.specs.Lines.{byte}
@@ -19,7 +18,7 @@ use Rattle.record.specs.Contents.{bound_at, Stays, Laid, fixed_places_lem}
 use Rattle.record.specs.Frame.{Framed, records}
 use Rattle.record.specs.Reads.{rows, edge_records_lem, sizes_of_lem, sizes_at, Loosened, Started, MarkedOr, Described, Read, ReadDoes}
 use Rattle.record.proofs.Frames.{chunked_long}
-use Rattle.record.specs.Takes.{Fresh, Denied, Taken, TakeAllDoes}
+use Rattle.record.specs.Takes.{Denied, Taken, TakeAllDoes}
 
 module _ {B : Type 0} (n : ℕ) (has : B → Points) where
   marked_or : (o : Option B) (was x : B) → Loose n (has was) → Stays o was x → MarkedOr n has o x
@@ -38,13 +37,6 @@ module _ {B : Type 0} (n : ℕ) (has : B → Points) where
 
   started_rooms : (s : Sizes) (t t₁ : Tables B) → Started n has s t t₁ → rooms_of t₁ ≡ rooms_of t
   started_rooms s t t₁ o = rw (o.edges, o.fixed.long, o.tests, o.conditions, o.constraints, o.rules, o.steps, o.facts) refl
-
-  -- then no record has been taken
-  pub fresh_from : (s : Sizes) (t t₁ : Tables B) → Started n has s t t₁ → Fresh n has s t₁
-  fresh_from s t t₁ o = record {
-    loose = rw o.fixed.long o.fixed.here;
-    counts = rw o.fixed.long o.counts;
-  }
 
 module _ {B : Type 0} (n : ℕ) (has : B → Points) (form : B → List ℕ) (bytes : List ℕ) (s : Sizes) (t t₁ : Tables B) (o : Started n has s t t₁) where
   read_taken : (rs : List (Record B)) (t' : Tables B) → Taken n has form (rows bytes) s t₁ rs t' → Read n has form bytes s t rs t'
@@ -81,9 +73,6 @@ module _ {B : Type 0} (n : ℕ) (has : B → Points) (form : B → List ℕ) (by
   module _ (lines : List (List ℕ)) (front : lines ≡ rows bytes) (s : Sizes) (sized : s ≡ sizes_of_lem (get_or lines k []) (edge_records_lem lines)) where
     size_is : s ≡ sizes_at bytes k
     size_is = rw front at sized
-
-    pub reads_no_sizes : (d : Defect) → Found (size_check s) (Err d) → Found (size_check (sizes_at bytes k)) (Err d)
-    reads_no_sizes d h = subst (λ x. Found (size_check x) (Err d)) size_is h
 
     module _ (clear : Clear (size_check s)) (o : Started n has s t t₁) where
       pub reads_stops : (fault : Fault) (t' : Tables B) → TakeAllDoes n has form lines s t₁ (Err fault) t' → ReadDoes n has form bytes t (Err fault) t'

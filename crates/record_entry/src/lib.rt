@@ -61,6 +61,7 @@ fn lay<S: Scale>(
 {
     let place = usize::from(component) * usize::from(sizes.fixed) + usize::from(label);
     let in_house = sizes.has_component(component) && label < sizes.fixed;
+    // By index: after a loan of the table, as by `get`, a proof no longer knows what it holds.
     if !in_house || place >= fixed.table.len() || !fixed.table[place].is_loose() {
         return Err(EntryFault::House);
     }

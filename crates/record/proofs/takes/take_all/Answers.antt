@@ -1,4 +1,4 @@
-use Rattle.std.proofs.Common.{◌≡◌, ◌+◌, [], ◌∷◌, ◌++◌, refl, ap, ◌∙◌, rules}
+use Rattle.std.proofs.Common.{◌≡◌, [], ◌∷◌, ◌++◌, refl, arith, rules}
 use Rattle.std.proofs.lemmas.List.{length_push}
 use Rattle.std.proofs.lemmas.Result.{err_from_is_err_and}
 use Rattle.record.specs.Faults.{placed}
@@ -12,20 +12,16 @@ loop-i-init g c =
     c.requires c.open-draft.ensures in
     ([], refl, so.taken, so.filings, (refl, refl, refl, refl, refl, refl, refl, refl))
 
-pub returns-in_err-map_err : goal.returns-in_err-map_err
-returns-in_err-map_err g c =
+pub returns-in_err-map_err-clause-does : goal.returns-in_err-map_err-clause-does
+returns-in_err-map_err-clause-does g c =
     let p = err_from_is_err_and c.from_residual.result c.from_residual.ensures.1 in
     let f = failed _ c.take.result c.map_err.result c.map_err.ensures.cases c.in_err-map_err.field-0.0 c.in_err-map_err.was in
     let told : c.in_err-map_err.field-0.0 ≡ placed f.0 c.loop-i.i-counter = let t = f.2 in search rules in
     let i = c.loop-i.invariant in
-    let d = c.take.ensures in
     let so : So g.S.Scale.size g.S.Scale.has g.S.Recorded.form c.args.lines.now c.args.sizes c.args.tables.now i.0 c.loop-i.tables c.loop-i.draft.count =
     record { taken = i.2; filings = i.3 } in
-    rw (p.1, p.2, told) (record {
-      does = so_stops g.S.Scale.size g.S.Scale.has g.S.Recorded.form c.args.lines.now c.args.sizes c.args.tables.now c.requires i.0 c.loop-i.tables
-          c.loop-i.draft so f.0 c.loop-i.i-counter c.take.new.tables c.take.new.draft i.1 c.loop-i-test.true (rw f.1 at d.does);
-      lent = lent_on c.args.tables.now c.loop-i.tables c.take.new.tables i.4 d.lent;
-    })
+    rw (p.1, p.2, told) (so_stops g.S.Scale.size g.S.Scale.has g.S.Recorded.form c.args.lines.now c.args.sizes c.args.tables.now c.requires i.0 c.loop-i.tables
+    c.loop-i.draft so f.0 c.loop-i.i-counter c.take.new.tables c.take.new.draft i.1 c.loop-i-test.true (rw f.1 at c.take.ensures.does))
 
 pub loop-i-preserved : goal.loop-i-preserved
 loop-i-preserved g c =
@@ -39,7 +35,7 @@ loop-i-preserved g c =
     so_more g.S.Scale.size g.S.Scale.has g.S.Recorded.form c.args.lines.now c.args.sizes c.args.tables.now c.requires i.0 c.loop-i.tables
     c.loop-i.draft.count so r c.take.new.tables c.take.new.draft.count (rw i.1 d.1) d.2.0 d.2.1 in (
       i.0 ++ r ∷ [],
-      length_push i.0 r ∙ ap (λ k. k + 1) i.1,
+      omega (arith, length_push i.0 r, i.1),
       more.taken,
       more.filings,
       lent_on c.args.tables.now c.loop-i.tables c.take.new.tables i.4 c.take.ensures.lent,
