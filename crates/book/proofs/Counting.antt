@@ -1,6 +1,8 @@
--- How many formulas the steps so far have. Assumes nothing.
-use Rattle.std.proofs.Common.{◌≡◌, ℕ, zero, suc, ◌+◌, ◌<◌, ◌≤◌, max, List, [], ◌∷◌, ◌++◌, length, get_or, take, sym, refl, arith}
-use Rattle.std.proofs.lemmas.List.{take_more}
+-- How many formulas a list of steps has. Assumes nothing.
+use Rattle.std.proofs.Common.{◌≡◌, ℕ, zero, suc, ◌+◌, ◌<◌, ◌≤◌, max, List, [], ◌∷◌, map, fold, unwrap_or, refl, ◌∙◌, arith}
+use Rattle.std.specs.Ordering.{max_by_ordering, nat_cmp}
+use Rattle.std.specs.List.{reduce}
+use Rattle.std.proofs.lemmas.List.Folds.{max_of_map}
 use Rattle.points.specs.Tables.{Every}
 use Rattle.book.specs.Steps.{formulas_of}
 
@@ -16,14 +18,11 @@ module _ {T : Type 0} (number : T → ℕ) where
   counts_least [] n all = omega arith
   counts_least (u ∷ ts) n all = omega (arith, all 0 (omega arith) u refl, counts_least ts n (λ i l t e. all (suc i) (omega arith) t e))
 
-  pub formulas_none : 0 ≡ formulas_of number []
+  -- the greatest number, and one more, of the list after `most`
+  folded : (most : ℕ) (ts : List T) → fold (λ m t. max m (number t + 1)) most ts ≡ max most (formulas_of number ts)
   unfolding formulas_of
-  formulas_none = refl
+  folded most [] = omega arith
+  folded most (t ∷ ts) = folded (max most (number t + 1)) ts ∙ omega arith
 
-  formulas_push : (ts : List T) (t : T) → formulas_of number (ts ++ t ∷ []) ≡ max (formulas_of number ts) (number t + 1)
-  unfolding formulas_of
-  formulas_push [] t = omega arith
-  formulas_push (u ∷ ts) t = rw (formulas_push ts t) (omega arith)
-
-  pub formulas_more : (ts : List T) (i : ℕ) (t : T) → i < length ts → t ≡ get_or ts i t → max (formulas_of number (take i ts)) (number t + 1) ≡ formulas_of number (take (i + 1) ts)
-  formulas_more ts i t l e = rw (take_more ts i t l, ← e) (sym (formulas_push (take i ts) t))
+  pub counts_by_max : (ts : List T) → unwrap_or (reduce (λ p z. max_by_ordering (nat_cmp p z) p z) (map (λ t. number t + 1) ts)) 0 ≡ formulas_of number ts
+  counts_by_max ts = max_of_map (λ t. number t + 1) ts ∙ folded 0 ts ∙ omega arith

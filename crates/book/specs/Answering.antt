@@ -1,8 +1,9 @@
 -- What a call is answered, where one of the formulas is asked for and elsewhere. Assumes nothing.
-use Rattle.std.specs.Prelude.{◌≡◌, ℕ, Bool, true, false, cond, nat_lt}
+use Rattle.std.specs.Prelude.{◌≡◌, ℕ, true, false, nat_lt}
 use Rattle.std.proofs.Math.Path.{refl, sym}
-use Rattle.std.proofs.Common.{◌∙◌}
+use Rattle.std.proofs.Common.{◌∙◌, arith}
 use Rattle.std.proofs.lemmas.Bool.{cond-true, cond-false}
+use Rattle.std.proofs.lemmas.Bool.Decides.{nat_tests}
 use Rattle.points.specs.Points.{Points, Same, Loose}
 use Rattle.book.specs.Meaning.{asked, answered}
 use Rattle.book.specs.Quorums.{quorate}
@@ -19,11 +20,7 @@ module _ (size formulas : ℕ) (says : ℕ → ℕ → ℕ → Points) (f x y : 
   -- below the quorum the answer is loose
   pub below_quorum : (least : ℕ) → nat_lt y least ≡ true → Loose size b → Same b (answered size formulas (quorate size least says) f x y)
   unfolding answered quorate
-  below_quorum least low loose p = loose p ∙ rw low (either (asked formulas f x y) (nat_lt p size))
-    where
-      either : (t u : Bool) → u ≡ cond t u u
-      either true u = refl
-      either false u = refl
+  below_quorum least low loose p = grind (arith, nat_tests, loose p)
 
   -- and from there on what the book below answers
   pub at_quorum : (least : ℕ) → nat_lt y least ≡ false → Same b (answered size formulas says f x y) → Same b (answered size formulas (quorate size least says) f x y)
@@ -34,8 +31,4 @@ module _ (size formulas : ℕ) (says : ℕ → ℕ → ℕ → Points) (f x y : 
 pub quorum_narrows : (size least : ℕ) (says : ℕ → ℕ → ℕ → Points) (f x z y p : ℕ) → (says f z y p ≡ true → says f x y p ≡ true) →
     quorate size least says f z y p ≡ true → quorate size least says f x y p ≡ true
 unfolding quorate
-quorum_narrows size least says f x z y p narrows = one (nat_lt y least)
-  where
-    one : (t : Bool) → cond t (nat_lt p size) (says f z y p) ≡ true → cond t (nat_lt p size) (says f x y p) ≡ true
-    one true e = e
-    one false e = narrows e
+quorum_narrows size least says f x z y p narrows = grind (arith, nat_tests)

@@ -1,5 +1,5 @@
 -- Books under a quorum.
-use Rattle.std.specs.Prelude.{◌≡◌, ℕ, ◌<◌, ◌≤◌, cond, Ok, Err, Result, nat_lt}
+use Rattle.std.specs.Prelude.{◌≡◌, ℕ, ◌<◌, ◌≤◌, cond, List, ◌++◌, Ok, Err, Result, codes, decimal, nat_lt}
 use Rattle.points.specs.Points.{Points}
 use Rattle.book.specs.declared.quorums.Quorum.{Quorum}
 use Rattle.book.specs.declared.quorums.QuorumTooLarge.{QuorumTooLarge}
@@ -12,3 +12,7 @@ quorate size least says f x y p = cond (nat_lt y least) (nat_lt p size) (says f 
 abbrev pub Founded : {B : Type 0} → ℕ → B → Result (Quorum B) (QuorumTooLarge B) → Type 0
 Founded least book (Ok q) = (q.least ≡ least) × (q.book ≡ book) × (least ≤ 200)
 Founded least book (Err e) = (e.least ≡ least) × (e.book ≡ book) × (200 < least)
+
+-- what the error of a quorum prints, as "the quorum 201 is above 200"
+abbrev pub too_large_text : ℕ → List ℕ
+too_large_text least = codes "the quorum " ++ (decimal least ++ (codes " is above " ++ decimal 200))

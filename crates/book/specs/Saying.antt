@@ -15,7 +15,8 @@ and_yes : (a : Bool) → (a && true) ≡ a
 and_yes true = refl
 and_yes false = refl
 
-pass_push : {T : Type 0} (q : T → Bool) (ts : List T) (t : T) → all_pass q (ts ++ t ∷ []) ≡ (all_pass q ts && q t)
+-- a list passes with one item more where it passed and the item does
+pub pass_push : {T : Type 0} (q : T → Bool) (ts : List T) (t : T) → all_pass q (ts ++ t ∷ []) ≡ (all_pass q ts && q t)
 unfolding all_pass
 pass_push q [] t = and_yes (q t)
 pass_push q (u ∷ ts) t = rw (pass_push q ts t) (sym (and_assoc (q u) (all_pass q ts) (q t)))

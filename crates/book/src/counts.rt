@@ -6,7 +6,7 @@ use super::{Step, StepBook};
 use scale::Scale;
 
 // A step that is reached once `least` neighbours qualify, of however many.
-#[derive(Clone, Copy)]
+#[derive(Clone, Copy, Debug)]
 pub struct CountStep<S> {
     pub formula: u8,
     pub least: u16,

@@ -1,6 +1,7 @@
 // Books of formulas: how neighbours press on a part.
 //
-// A formula says a bound for every count of neighbours: x of them qualify among y that are eligible.
+// A formula says a bound for every count of neighbours: x of them qualify among y that are eligible. Code and contracts
+// alike speak of "f at x of y", so these stay three arguments and are no struct.
 #![tactic(auto)]
 
 ghost use Rattle.std.specs.Prelude.{◌≡◌, ℕ, ◌≤◌, true};
@@ -17,7 +18,10 @@ mod steps;
 pub use counts::{CountStep, CountingBook};
 pub use quorums::{Quorum, QuorumTooLarge};
 pub use shares::{Stair, Stairs};
-pub use steps::{Listing, Step, StepBook, step_laws_stand};
+pub use steps::{Step, StepBook, step_laws_stand};
+
+// The most eligible neighbours that a formula speaks of, and so the largest quorum.
+pub const MOST_ELIGIBLE: u8 = 200;
 
 pub trait Book<S: Scale> {
     // How many formulas the book has; they are numbered from 0.

@@ -1,34 +1,44 @@
 // Quorums: a book that is silent while too few neighbours are eligible.
-ghost use Rattle.std.specs.Prelude.{◌≡◌, nat_lt};
-ghost use Rattle.book.specs.Quorums.{quorate, Founded};
+ghost use Rattle.std.specs.Prelude.{◌≡◌, Some, nat_lt};
+ghost use Rattle.book.specs.Quorums.{quorate, Founded, too_large_text};
 ghost use Rattle.book.specs.Answering.{quorum_narrows};
 
-use super::Book;
+use super::{Book, MOST_ELIGIBLE};
 use scale::Scale;
-
-// The largest quorum.
-const MOST: u8 = 200;
+use std::error::Error;
+use std::fmt;
 
 // A book that says what the book below it says where at least `least` neighbours are eligible, and is loose elsewhere.
-#[derive(Drop)]
+#[derive(Debug, Drop)]
 pub struct Quorum<B> {
     least: u8,
     book: B,
 }
 
 // A quorum above 200, with the book that was handed in.
-#[derive(Drop)]
+#[derive(Debug, Drop)]
 pub struct QuorumTooLarge<B> {
     pub least: u8,
     pub book: B,
 }
+
+impl<B> fmt::Display for QuorumTooLarge<B> {
+    ghost output = { λ e. Some (too_large_text e.least) };
+
+    fn fmt<W: fmt::Write>(&self, f: &mut fmt::Formatter<W>) -> fmt::Result {
+        let least = self.least;
+        write!(f, "the quorum {least} is above {MOST_ELIGIBLE}")
+    }
+}
+
+impl<B: fmt::Debug + Drop> Error for QuorumTooLarge<B> {}
 
 impl<B> Quorum<B> {
     // The book under a quorum of `least`, which is 0 to 200.
     pub fn new(least: u8, book: B) -> Result<Quorum<B>, QuorumTooLarge<B>>
         ensures { Founded least book result }
     {
-        if least <= MOST {
+        if least <= MOST_ELIGIBLE {
             Ok(Quorum { least, book })
         } else {
             Err(QuorumTooLarge { least, book })

@@ -6,7 +6,7 @@ use super::{Step, StepBook};
 use scale::Scale;
 
 // A step that is reached once `share` thousandths of the eligible neighbours qualify, and never where none is eligible.
-#[derive(Clone, Copy)]
+#[derive(Clone, Copy, Debug)]
 pub struct Stair<S> {
     pub formula: u8,
     pub share: u16,

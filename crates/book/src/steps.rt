@@ -1,18 +1,17 @@
 // Books of steps: a formula is made of steps, and each step that is reached narrows it.
 //
-// A step is of one formula, and says a bound once it is reached. Kinds of step differ only in when one is reached.
-ghost use Rattle.std.specs.Prelude.{◌≡◌, ℕ, ◌+◌, ◌≤◌, max, Bool, true, false, List};
+// A step is of one formula, and says a bound once it is reached. Kinds of step differ only in when one is reached; each is
+// a struct of its own, since whoever fills one in names what it counts, `share` or `least`.
+ghost use Rattle.std.specs.Prelude.{◌≡◌, ℕ, ◌+◌, ◌≤◌, max, Bool, true, false};
 ghost use Rattle.points.specs.Points.{Same, Meet};
 ghost use Rattle.book.specs.Meaning.{asked, answered};
 ghost use Rattle.book.specs.Steps.{formulas_of, presses, said, StepLaws};
 ghost use Rattle.book.specs.Saying.{said_narrows};
 
-use super::Book;
+use super::{Book, MOST_ELIGIBLE};
 use scale::Scale;
+use std::convert::AsSlice;
 use std::marker::PhantomData;
-
-// The most eligible neighbours that a formula speaks of.
-const MOST: u16 = 200;
 
 pub trait Step<S: Scale>: Copy {
     // The formula that the step is of.
@@ -37,26 +36,8 @@ pub trait Step<S: Scale>: Copy {
     ghost stays: { (t : Self) (x z y : ℕ) → x ≤ z → z ≤ y → y ≤ 200 → reaches t x y ≡ true → reaches t z y ≡ true };
 }
 
-// What can be read as a list.
-pub trait Listing<T> {
-    // Its elements, in their order.
-    ghost list: { Self → List T };
-
-    fn items(&self) -> &[T]
-        ensures { result.now ≡ list self.now };
-}
-
-// A list that is lent.
-impl<'a, T> Listing<T> for &'a [T] {
-    ghost list = { λ l. l.now };
-
-    fn items(&self) -> &[T] {
-        *self
-    }
-}
-
-// A book over a list of steps of one kind.
-#[derive(Clone, Copy)]
+// A book over a list of steps of one kind: whatever lends a slice of them, as a lent slice, an array or a `Vec` does.
+#[derive(Clone, Copy, Debug)]
 pub struct StepBook<T, L> {
     steps: L,
     kind: PhantomData<T>,
@@ -81,52 +62,32 @@ fn presses<S: Scale, T: Step<S>>(step: T, f: u16, x: u16, y: u16) -> bool
     u16::from(step.formula()) == f && step.reached(x, y)
 }
 
-// The bound narrowed by the step, if that is of formula f and reached at x of y.
-fn narrowed<S: Scale, T: Step<S>>(bound: S, step: T, f: u16, x: u16, y: u16) -> S
-    ensures pressed { presses T.Step.number T.Step.reaches f x y step ≡ true → Meet (S.Scale.has bound) (S.Scale.has (T.Step.limit step)) (S.Scale.has result) }
-    ensures passed { presses T.Step.number T.Step.reaches f x y step ≡ false → result ≡ bound }
-{
-    if presses(step, f, x, y) {
-        bound.meet(step.bound())
-    } else {
-        bound
-    }
-}
-
 // The meet of the bounds of the steps of formula f that are reached at x of y; loose if there is none.
 fn met<S: Scale, T: Step<S>>(steps: &[T], f: u16, x: u16, y: u16) -> S
     ensures { Same (S.Scale.has result) (said T.Step.number T.Step.reaches (λ t. S.Scale.has (T.Step.limit t)) S.Scale.size steps.now f x y) }
 {
-    let mut bound = S::loose();
-    for step in steps {
-        bound = narrowed(bound, *step, f, x, y);
-    }
-    bound
-}
-
-// How many formulas there are, if there were `count` and one has this number.
-fn with_formula(count: u16, number: u8) -> u16
-    ensures { result ≡ max count (number + 1) }
-{
-    count.max(u16::from(number) + 1)
+    steps
+        .iter()
+        .filter(|step| presses(**step, f, x, y))
+        .fold(S::loose(), |bound, step| bound.meet(step.bound()))
 }
 
 // One formula more than the highest that a step is of; none if there is no step.
 fn counted<S: Scale, T: Step<S>>(steps: &[T]) -> u16
     ensures { result ≡ formulas_of T.Step.number steps.now }
 {
-    let mut count = 0;
-    for step in steps {
-        count = with_formula(count, step.formula());
-    }
-    count
+    steps
+        .iter()
+        .map(|step| u16::from(step.formula()) + 1)
+        .max()
+        .unwrap_or(0)
 }
 
 // Whether f is one of the formulas, and x ≤ y ≤ 200.
 fn asks(formulas: u16, f: u16, x: u16, y: u16) -> bool
     ensures { result ≡ asked formulas f x y }
 {
-    f < formulas && x <= y && y <= MOST
+    f < formulas && x <= y && y <= u16::from(MOST_ELIGIBLE)
 }
 
 // What formula f says at x of y; loose if no step is of f or above, or not x ≤ y ≤ 200.
@@ -140,25 +101,23 @@ fn told<S: Scale, T: Step<S>>(steps: &[T], f: u16, x: u16, y: u16) -> S
     }
 }
 
-impl<S: Scale, T: Step<S>, L: Listing<T>> Book<S> for StepBook<T, L> {
-    ghost formulas = { λ b. formulas_of T.Step.number (L.Listing.list b.steps) };
+impl<S: Scale, T: Step<S>, L: AsSlice<T>> Book<S> for StepBook<T, L> {
+    ghost formulas = { λ b. formulas_of T.Step.number (L.AsSlice.items b.steps) };
 
-    ghost says = { λ b. said T.Step.number T.Step.reaches (λ t. S.Scale.has (T.Step.limit t)) S.Scale.size (L.Listing.list b.steps) };
+    ghost says = { λ b. said T.Step.number T.Step.reaches (λ t. S.Scale.has (T.Step.limit t)) S.Scale.size (L.AsSlice.items b.steps) };
 
     ghost narrows = { λ b. said_narrows _ _ _ _ T.Step.stays _ };
 
     fn count(&self) -> u16 {
-        counted(self.steps.items())
+        counted(self.steps.as_slice())
     }
 
     fn answer(&self, f: u16, x: u16, y: u16) -> S {
-        told(self.steps.items(), f, x, y)
+        told(self.steps.as_slice(), f, x, y)
     }
 }
 
-// Holds what steps mean, for every kind of step. It does nothing when run.
-pub fn step_laws_stand<S: Scale, T: Step<S>>() -> u8
+// What steps mean, for every kind of step: a theorem, with nothing to run.
+pub fn step_laws_stand<S: Scale, T: Step<S>>()
     ensures { StepLaws T.Step.number T.Step.reaches (λ t. S.Scale.has (T.Step.limit t)) S.Scale.size }
-{
-    0
-}
+{}

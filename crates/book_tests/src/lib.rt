@@ -11,30 +11,27 @@ mod tests {
     use std::test::Fail;
 
     // The thousandths from 0 to high.
-    fn up_to(high: u16) -> Thousandths {
-        match Thousandths::range(0, high) {
-            Ok(bound) => bound,
-            Err(_) => Thousandths::none(),
-        }
+    fn up_to(rt: &impl Abort, high: u16) -> Thousandths {
+        Thousandths::range(0, high).expect(rt, "0 to high is a range")
     }
 
     // A stair of formula 0 with the bound 0 to 400.
-    fn stair(share: u16) -> Stair<Thousandths> {
+    fn stair(rt: &impl Abort, share: u16) -> Stair<Thousandths> {
         Stair {
             formula: 0,
             share,
-            bound: up_to(400),
+            bound: up_to(rt, 400),
         }
     }
 
     // Whether the book's formula f says 0 to high at x of y.
     fn says<B: Book<Thousandths>>(rt: &impl Abort, book: &B, f: u16, x: u16, y: u16, high: u16) {
-        assert_eq!(rt; book.answer(f, x, y).to_bytes(), up_to(high).to_bytes());
+        assert_eq!(rt; book.answer(f, x, y).to_bytes(), up_to(rt, high).to_bytes());
     }
 
     #[test]
     fn half_of_the_neighbours(rt: HostRuntime) {
-        let stairs = [stair(500)];
+        let stairs = [stair(&rt, 500)];
         let book = Stairs::over(&stairs);
         says(&rt, &book, 0, 1, 2, 400);
         says(&rt, &book, 0, 1, 3, 1000);
@@ -43,13 +40,13 @@ mod tests {
 
     #[test]
     fn shares_at_the_ends(rt: HostRuntime) {
-        says(&rt, &Stairs::over(&[stair(0)]), 0, 0, 1, 400);
-        says(&rt, &Stairs::over(&[stair(1001)]), 0, 200, 200, 1000);
+        says(&rt, &Stairs::over(&[stair(&rt, 0)]), 0, 0, 1, 400);
+        says(&rt, &Stairs::over(&[stair(&rt, 1001)]), 0, 200, 200, 1000);
     }
 
     #[test]
     fn loose_outside(rt: HostRuntime) {
-        let stairs = [stair(0)];
+        let stairs = [stair(&rt, 0)];
         let book = Stairs::over(&stairs);
         says(&rt, &book, 0, 200, 200, 400);
         says(&rt, &book, 0, 3, 2, 1000);
@@ -63,12 +60,12 @@ mod tests {
             CountStep {
                 formula: 255,
                 least: 0,
-                bound: up_to(700),
+                bound: up_to(&rt, 700),
             },
             CountStep {
                 formula: 255,
                 least: 2,
-                bound: up_to(300),
+                bound: up_to(&rt, 300),
             },
         ];
         let book = CountingBook::over(&steps);
@@ -88,16 +85,12 @@ mod tests {
 
     #[test]
     fn quorums(rt: HostRuntime) -> Result<(), Fail> {
-        let stairs = [stair(0)];
-        let Ok(three) = Quorum::new(3, Stairs::over(&stairs)) else {
-            return Err(Fail::new("3 is a quorum"));
-        };
+        let stairs = [stair(&rt, 0)];
+        let three = Quorum::new(3, Stairs::over(&stairs))?;
         says(&rt, &three, 0, 1, 2, 1000);
         says(&rt, &three, 0, 1, 3, 400);
         assert_eq!(rt; three.count(), 1);
-        let Ok(most) = Quorum::new(200, three) else {
-            return Err(Fail::new("200 is a quorum"));
-        };
+        let most = Quorum::new(200, three)?;
         says(&rt, &most, 0, 1, 199, 1000);
         says(&rt, &most, 0, 1, 200, 400);
         Ok(())
@@ -105,10 +98,8 @@ mod tests {
 
     #[test]
     fn refused_quorums(rt: HostRuntime) -> Result<(), Fail> {
-        let stairs = [stair(0)];
-        let Ok(none) = Quorum::new(0, Stairs::over(&stairs)) else {
-            return Err(Fail::new("0 is a quorum"));
-        };
+        let stairs = [stair(&rt, 0)];
+        let none = Quorum::new(0, Stairs::over(&stairs))?;
         says(&rt, &none, 0, 0, 1, 400);
         let Err(refused) = Quorum::new(201, none) else {
             return Err(Fail::new("201 is no quorum"));

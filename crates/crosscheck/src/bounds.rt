@@ -14,21 +14,18 @@ impl Taste {
     // A taste in this scale; with a common point three times in four.
     pub fn roll(dice: &mut Dice, kind: Kind) -> Taste {
         let point = dice.below(kind.size());
-        let common = if dice.once_in(4) { None } else { Some(point) };
+        let common = (!dice.once_in(4)).then_some(point);
         Taste { kind, common }
     }
 
     // A bound, narrow or wide.
     pub fn bound(self, dice: &mut Dice, narrow: bool) -> [u8; 4] {
-        let point = match self.common {
-            Some(point) => point,
-            None => dice.below(self.kind.size()),
-        };
-        let halves = match self.kind {
+        let point = self.common.unwrap_or_else(|| dice.below(self.kind.size()));
+        let (a, b) = match self.kind {
             Kind::Thousandths => range(dice, point, narrow),
             Kind::Modes => (mask(dice, point, narrow), 0),
         };
-        form(halves.0, halves.1)
+        form(a, b)
     }
 
     // The void.

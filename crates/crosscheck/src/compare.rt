@@ -3,27 +3,29 @@ use super::bounds::Taste;
 use super::damage::damage;
 use super::dice::Dice;
 use super::files::{Draft, Shape};
-use super::limits::{LIMITS, limit};
+use super::limits::{LIMITS, shape_at};
+use super::scales::Compared;
 use report::report;
-use scale::Recorded;
 use second::Kind;
 use std::alloc::{AllocError, Global};
 
-// What the two programs say to a file.
+// What the two programs say to the same.
 #[derive(Drop)]
-pub struct Texts {
+pub struct Answers {
     pub first: String,
     pub other: String,
 }
 
-impl Texts {
+impl Answers {
     pub fn agree(&self) -> bool {
-        self.first.as_str() == self.other.as_str()
+        self.first == self.other
     }
 }
 
-pub fn both_texts<S: Recorded>(heap: Global, kind: Kind, bytes: &[u8]) -> anyhow::Result<Texts> {
-    Ok(Texts {
+// What the two programs say to a file.
+pub fn both_texts<S: Compared>(heap: Global, bytes: &[u8]) -> anyhow::Result<Answers> {
+    let kind = S::KIND;
+    Ok(Answers {
         first: report::<S>(heap, bytes)?,
         other: second::answer(heap, kind, bytes)?,
     })
@@ -38,7 +40,7 @@ pub fn random_file(
     i: usize,
 ) -> Result<Vec<u8>, AllocError> {
     let shape = if i % 40 == 7 {
-        limit(dice, i / 40 % LIMITS)
+        shape_at(dice, i / 40 % LIMITS)
     } else {
         Shape::small(dice)
     };

@@ -2,6 +2,9 @@
 use super::dice::Dice;
 use std::alloc::{AllocError, Global};
 
+// The letters of records.
+const LETTERS: &[u8; 9] = b"EXTCKRQFS";
+
 // Sets one byte of a record.
 fn set(bytes: &mut Vec<u8>, record: usize, k: usize, value: u8) {
     let at = record.saturating_mul(16).saturating_add(k);
@@ -24,32 +27,23 @@ fn odd_byte(dice: &mut Dice) -> u8 {
 
 // Appends a record that stands in the file.
 fn repeat_record(heap: Global, bytes: &mut Vec<u8>, record: usize) -> Result<(), AllocError> {
-    let mut copy: Vec<u8> = Vec::new(heap);
-    for byte in bytes.iter().skip(record.saturating_mul(16)).take(16) {
-        copy.push(*byte)?;
-    }
-    for byte in copy.iter() {
-        bytes.push(*byte)?;
-    }
-    Ok(())
+    let start = record.saturating_mul(16);
+    let copy = bytes.iter().copied().skip(start).take(16);
+    let copy: Vec<u8> = copy.collect(heap)?;
+    bytes.extend_from_slice(&copy)
 }
 
 // The number of the first record with a letter, or 0.
 fn find(bytes: &[u8], letter: u8) -> usize {
-    for (i, record) in bytes.chunks(16).enumerate() {
-        if record.first().copied() == Some(letter) {
-            return i;
-        }
-    }
-    0
+    bytes
+        .chunks(16)
+        .position(|record| record.first() == Some(&letter))
+        .unwrap_or(0)
 }
 
 // Appends zeros up to a length.
 fn stretch(bytes: &mut Vec<u8>, length: usize) -> Result<(), AllocError> {
-    for _i in bytes.len()..length {
-        bytes.push(0)?;
-    }
-    Ok(())
+    bytes.resize(length.max(bytes.len()), 0)
 }
 
 // Damages a file in one of several ways. Some of them leave it lawful.
@@ -58,8 +52,8 @@ pub fn damage(heap: Global, dice: &mut Dice, bytes: &mut Vec<u8>) -> Result<(), 
     let any = dice.below(length / 16);
     let sizes = find(bytes, b'S');
     let bound = find(bytes, b'X');
-    let letters = b"EXTCKRQFS";
-    let letter = letters.get(dice.below(9)).copied().unwrap_or(b'S');
+    let letter = LETTERS.get(dice.below(LETTERS.len()));
+    let letter = letter.copied().unwrap_or(b'S');
     let record = find(bytes, letter);
     match dice.below(12) {
         0 => set(bytes, any, dice.below(16), dice.byte()),

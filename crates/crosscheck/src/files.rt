@@ -55,19 +55,50 @@ impl Shape {
         self.tests / 2
     }
 
-    fn components(self) -> usize {
+    pub fn components(self) -> usize {
         self.nodes.saturating_add(self.edges)
+    }
+
+    // How many cells a course has.
+    pub fn cells(self) -> usize {
+        let row = self.components().saturating_mul(self.moving);
+        row.saturating_mul(self.last.saturating_add(1))
     }
 }
 
 // Appends a record: a letter and what follows it, filled up with zeros.
 pub fn push_record(bytes: &mut Vec<u8>, letter: u8, rest: &[u8]) -> Result<(), AllocError> {
+    let end = bytes.len().saturating_add(16);
     bytes.push(letter)?;
-    for k in 0..15usize {
-        bytes.push(rest.get(k).copied().unwrap_or(0))?;
-    }
-    Ok(())
+    bytes.extend_from_slice(rest)?;
+    bytes.resize(end, 0)
 }
+
+// The kinds of records.
+#[derive(Clone, Copy)]
+enum Section {
+    Sizes,
+    Edges,
+    FixedBounds,
+    Tests,
+    Conditions,
+    Constraints,
+    Rules,
+    Stairs,
+    Facts,
+}
+
+const SECTIONS: [Section; 9] = [
+    Section::Sizes,
+    Section::Edges,
+    Section::FixedBounds,
+    Section::Tests,
+    Section::Conditions,
+    Section::Constraints,
+    Section::Rules,
+    Section::Stairs,
+    Section::Facts,
+];
 
 // A file in the making: its bytes, its shape and the taste of its bounds.
 #[derive(Drop)]
@@ -90,25 +121,26 @@ impl Draft {
             shape,
             taste,
         };
-        let first = dice.below(9);
-        for i in 0..9 {
-            draft.section(dice, (first.saturating_add(i)) % 9)?;
+        let kinds = SECTIONS.len();
+        let first = dice.below(kinds);
+        for section in SECTIONS.iter().cycle().skip(first).take(kinds) {
+            draft.section(dice, *section)?;
         }
         Ok(draft)
     }
 
     // All records of a kind.
-    fn section(&mut self, dice: &mut Dice, which: usize) -> Result<(), AllocError> {
-        match which {
-            0 => self.sizes(),
-            1 => self.edges(dice),
-            2 => self.fixed_bounds(dice),
-            3 => self.tests(dice),
-            4 => self.conditions(dice),
-            5 => self.constraints(dice),
-            6 => self.rules(dice),
-            7 => self.stairs(dice),
-            _ => self.facts(dice),
+    fn section(&mut self, dice: &mut Dice, section: Section) -> Result<(), AllocError> {
+        match section {
+            Section::Sizes => self.sizes(),
+            Section::Edges => self.edges(dice),
+            Section::FixedBounds => self.fixed_bounds(dice),
+            Section::Tests => self.tests(dice),
+            Section::Conditions => self.conditions(dice),
+            Section::Constraints => self.constraints(dice),
+            Section::Rules => self.rules(dice),
+            Section::Stairs => self.stairs(dice),
+            Section::Facts => self.facts(dice),
         }
     }
 

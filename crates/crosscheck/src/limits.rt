@@ -2,10 +2,44 @@
 use super::dice::Dice;
 use super::files::Shape;
 
-// How many such shapes there are.
-pub const LIMITS: usize = 26;
+// What is at its limit.
+#[derive(Clone, Copy)]
+enum Limit {
+    Nodes,
+    Edges,
+    Fixed,
+    Moving,
+    Last,
+    Quorum,
+    Tests,
+    Conditions,
+    Constraints,
+    Rules,
+    Stairs,
+    Facts,
+    Cells,
+}
 
-// A house of one node without tables, to start from.
+const ALL: [Limit; 13] = [
+    Limit::Nodes,
+    Limit::Edges,
+    Limit::Fixed,
+    Limit::Moving,
+    Limit::Last,
+    Limit::Quorum,
+    Limit::Tests,
+    Limit::Conditions,
+    Limit::Constraints,
+    Limit::Rules,
+    Limit::Stairs,
+    Limit::Facts,
+    Limit::Cells,
+];
+
+// How many such shapes there are: for each limit one at it, and one past it.
+pub const LIMITS: usize = 2 * ALL.len();
+
+// A house of two nodes and a line, to start from.
 fn plain() -> Shape {
     Shape {
         nodes: 2,
@@ -26,29 +60,29 @@ fn plain() -> Shape {
 }
 
 // One of the shapes by its number: even ones are at a limit, odd ones past it.
-pub fn limit(dice: &mut Dice, which: usize) -> Shape {
+pub fn shape_at(dice: &mut Dice, which: usize) -> Shape {
     let mut shape = plain();
     let past = which % 2;
-    match which / 2 {
-        0 => shape.nodes = 200 + past,
-        1 => {
+    match ALL.get(which / 2).copied().unwrap_or(Limit::Cells) {
+        Limit::Nodes => shape.nodes = 200 + past,
+        Limit::Edges => {
             shape.nodes = dice.between(25, 60);
             shape.edges = 600 + past;
         }
-        2 => shape.fixed = 16 + past,
-        3 => shape.moving = 8 + past,
-        4 => shape.last = 63 + past,
-        5 => shape.quorum = 200 + past,
-        6 => shape.tests = 64 + past,
-        7 => shape.conditions = 64 + past,
-        8 => shape.constraints = 64 + past,
-        9 => shape.rules = 64 + past,
-        10 => {
+        Limit::Fixed => shape.fixed = 16 + past,
+        Limit::Moving => shape.moving = 8 + past,
+        Limit::Last => shape.last = 63 + past,
+        Limit::Quorum => shape.quorum = 200 + past,
+        Limit::Tests => shape.tests = 64 + past,
+        Limit::Conditions => shape.conditions = 64 + past,
+        Limit::Constraints => shape.constraints = 64 + past,
+        Limit::Rules => shape.rules = 64 + past,
+        Limit::Stairs => {
             shape.stairs = 256 + past;
             shape.formulas = 256;
         }
-        11 => shape.facts = 1000 + past,
-        _ => {
+        Limit::Facts => shape.facts = 1000 + past,
+        Limit::Cells => {
             shape.nodes = 10 + past;
             shape.edges = 6;
             shape.moving = 8;

@@ -13,20 +13,22 @@ mod files;
 mod limits;
 mod lives;
 mod samples;
+mod scales;
 mod tally;
 
 use anyhow::Context;
-use compare::{both_texts, random_file};
+use compare::{Answers, both_texts, random_file};
 use dice::Dice;
 use lives::live;
-use samples::{SAMPLES, samples_right};
-use scale::{Modes, Recorded, Thousandths};
-use second::Kind;
+use samples::{COUNT, samples_right};
+use scale::{Modes, Thousandths};
+use scales::Compared;
 use std::env;
-use tally::{LISTED, NOTHING, Tally, outcome};
+use tally::{Outcome, Tally};
 
 // Prints a difference: the bytes of the file, sixteen on a line, and both texts.
-fn show(rt: &HostRuntime, bytes: &[u8], first: &str, other: &str) -> anyhow::Result<()> {
+fn show(rt: &HostRuntime, bytes: &[u8], texts: &Answers) -> anyhow::Result<()> {
+    let Answers { first, other } = texts;
     println!(rt; "they differ on this file:")?;
     for record in bytes.chunks(16) {
         println!(rt; "  {record:?}")?;
@@ -36,46 +38,51 @@ fn show(rt: &HostRuntime, bytes: &[u8], first: &str, other: &str) -> anyhow::Res
 }
 
 // Compares both programs on random files.
-fn compare_files<S: Recorded>(
+fn compare_files<S: Compared>(
     rt: &HostRuntime,
     dice: &mut Dice,
-    kind: Kind,
     files: usize,
 ) -> anyhow::Result<Tally> {
-    let mut tally = Tally::empty();
+    let mut tally = Tally::new(rt.alloc());
     for i in 0..files {
-        let file = random_file(rt.alloc(), dice, kind, i)?;
-        let texts = both_texts::<S>(rt.alloc(), kind, &file)?;
+        let file = random_file(rt.alloc(), dice, S::KIND, i)?;
+        let texts = both_texts::<S>(rt.alloc(), &file)?;
         if texts.agree() {
-            tally.note(outcome(texts.first.as_str()));
+            tally.note(Outcome::of(texts.first.as_str()))?;
         } else {
             tally.differ = tally.differ.saturating_add(1);
-            show(rt, &file, texts.first.as_str(), texts.other.as_str())?;
+            show(rt, &file, &texts)?;
         }
     }
     Ok(tally)
 }
 
-// Compares both programs on random lists of calls. Gives how many calls they agreed on, and how many lists differ.
-fn compare_lives<S: Recorded>(
+// On how many calls both programs agreed, and how many lists of calls differ.
+#[derive(Clone, Copy)]
+struct Agreement {
+    calls: usize,
+    differ: usize,
+}
+
+// Compares both programs on random lists of calls.
+fn compare_lives<S: Compared>(
     rt: &HostRuntime,
     dice: &mut Dice,
-    kind: Kind,
     lives: usize,
-) -> anyhow::Result<(usize, usize)> {
+) -> anyhow::Result<Agreement> {
     let mut calls = 0usize;
     let mut differ = 0usize;
     for _i in 0..lives {
-        let answers = live::<S>(rt.alloc(), dice, kind)?;
-        if answers.first.as_str() == answers.other.as_str() {
+        let answers = live::<S>(rt.alloc(), dice)?;
+        if answers.agree() {
             calls = calls.saturating_add(answers.first.as_str().lines().count());
         } else {
             differ = differ.saturating_add(1);
-            let (first, other) = (answers.first.as_str(), answers.other.as_str());
+            let Answers { first, other } = &answers;
             println!(rt; "they differ on these calls:\n{first}and\n{other}")?;
         }
     }
-    Ok((calls, differ))
+    Ok(Agreement { calls, differ })
 }
 
 fn row(rt: &HostRuntime, name: &str, left: usize, right: usize) -> anyhow::Result<()> {
@@ -83,15 +90,25 @@ fn row(rt: &HostRuntime, name: &str, left: usize, right: usize) -> anyhow::Resul
     Ok(())
 }
 
-// Prints how often each outcome came.
+// Prints how often an outcome came in each scale.
+fn outcome_row(
+    rt: &HostRuntime,
+    outcome: Outcome,
+    left: &Tally,
+    right: &Tally,
+) -> anyhow::Result<()> {
+    let name = outcome.to_string(rt.alloc())?;
+    row(rt, name.as_str(), left.of(outcome), right.of(outcome))
+}
+
+// Prints how often each outcome came; of the refusals those that came.
 fn outcomes(rt: &HostRuntime, left: &Tally, right: &Tally) -> anyhow::Result<()> {
-    row(rt, "a listing", left.of(LISTED), right.of(LISTED))?;
-    row(rt, "nothing to list", left.of(NOTHING), right.of(NOTHING))?;
-    row(rt, "contradiction", left.of(14), right.of(14))?;
-    for number in 0..26 {
-        if number != 14 && left.of(number).saturating_add(right.of(number)) > 0 {
-            let name = format!(in rt.alloc(); "refused {number}")?;
-            row(rt, name.as_str(), left.of(number), right.of(number))?;
+    for outcome in [Outcome::Listing, Outcome::Nothing, Outcome::Contradiction] {
+        outcome_row(rt, outcome, left, right)?;
+    }
+    for outcome in (0..=u8::MAX).map(Outcome::Refused) {
+        if left.of(outcome) > 0 || right.of(outcome) > 0 {
+            outcome_row(rt, outcome, left, right)?;
         }
     }
     row(rt, "files that differ", left.differ, right.differ)
@@ -106,16 +123,16 @@ fn run(rt: &HostRuntime) -> anyhow::Result<()> {
         .context("how many lists of calls?")?
         .parse::<usize>()?;
     let right = samples_right(rt.alloc())?;
-    println!(rt; "worked examples: {right} of {SAMPLES} as they have to be")?;
+    println!(rt; "worked examples: {right} of {COUNT} as they have to be")?;
     let mut dice = Dice::from_seed(seed);
-    let ranges = compare_files::<Thousandths>(rt, &mut dice, Kind::Thousandths, files)?;
-    let masks = compare_files::<Modes>(rt, &mut dice, Kind::Modes, files)?;
+    let ranges = compare_files::<Thousandths>(rt, &mut dice, files)?;
+    let masks = compare_files::<Modes>(rt, &mut dice, files)?;
     println!(rt; "{:<22}{:>12}{:>12}", "files", "thousandths", "modes")?;
     outcomes(rt, &ranges, &masks)?;
-    let ranges = compare_lives::<Thousandths>(rt, &mut dice, Kind::Thousandths, lives)?;
-    let masks = compare_lives::<Modes>(rt, &mut dice, Kind::Modes, lives)?;
-    row(rt, "calls", ranges.0, masks.0)?;
-    row(rt, "lists that differ", ranges.1, masks.1)
+    let ranges = compare_lives::<Thousandths>(rt, &mut dice, lives)?;
+    let masks = compare_lives::<Modes>(rt, &mut dice, lives)?;
+    row(rt, "calls", ranges.calls, masks.calls)?;
+    row(rt, "lists that differ", ranges.differ, masks.differ)
 }
 
 fn main(rt: HostRuntime) -> anyhow::Result<()> {

@@ -1,9 +1,8 @@
 // The examination of a house: eight checks in order, each over its places from the lowest on. The first place at which
 // a check fails is the answer.
-ghost use Rattle.std.specs.Prelude.{◌≡◌, ◌&&◌, length, not, position, take};
-ghost use Rattle.std.specs.List.{list_any};
+ghost use Rattle.std.specs.Prelude.{◌≡◌, length, not, position};
 ghost use Rattle.points.specs.Points.{void};
-ghost use Rattle.examining.specs.Checks.{between, edge_passes, condition_passes, names_label_lem, joins_nodes_lem, same_pair, new_pair, tests_fixed_lem, tests_moving_lem, condition_kept, body_ends_lem, constraint_kept, names_condition_lem, rule_kept};
+ghost use Rattle.examining.specs.Checks.{between, edge_passes, condition_passes, names_label_lem, joins_nodes_lem, tests_fixed_lem, tests_moving_lem, condition_kept, body_ends_lem, constraint_kept, names_condition_lem, rule_kept};
 ghost use Rattle.examining.specs.Examine.{Found, Lowest, Examined, size_check, table_check, edge_check, fixed_check, test_check, condition_check, constraint_check, rule_check};
 ghost use Rattle.examining.specs.Lawful.{AcceptedLaws};
 
@@ -79,30 +78,25 @@ fn joins_nodes(sizes: Sizes, edge: Edge) -> bool
     edge.from < sizes.nodes && edge.to < sizes.nodes
 }
 
-// Whether an edge before a place has the same pair of ends. The order of the ends counts: (0, 1) and (1, 0) differ.
-fn repeats(edges: &[Edge], at: usize, edge: Edge) -> bool
-    ensures { result ≡ list_any (λ earlier. same_pair earlier edge) (take at edges.now) }
-{
-    edges.iter().take(at).any(|earlier| *earlier == edge)
-}
-
-// Whether the edge at a place leads from a node to a node, and no edge before it has the same pair of ends.
-fn edge_stands(sizes: Sizes, edges: &[Edge], at: usize, edge: Edge) -> bool
-    ensures { result ≡ (joins_nodes_lem sizes edge && new_pair edges.now at edge) }
-{
-    joins_nodes(sizes, edge) && !repeats(edges, at, edge)
-}
-
-// The lowest edge that names no node, or repeats the pair of an edge before it.
+// The lowest edge that names no node, or repeats the pair of an edge before it. The order of the ends counts: (0, 1) and
+// (1, 0) differ.
 fn bad_edge(sizes: Sizes, edges: &[Edge]) -> Option<usize>
     ensures { Lowest (length edges.now) (edge_passes sizes edges.now) result }
 {
-    for (at, edge) in edges.iter().enumerate() {
-        if !edge_stands(sizes, edges, at, *edge) {
-            return Some(at);
+    let bad = 'search: {
+        for (at, edge) in edges.iter().enumerate() {
+            if !joins_nodes(sizes, *edge) {
+                break 'search Some(at);
+            }
+            for (before, earlier) in edges[..at].iter().enumerate() {
+                if earlier == edge {
+                    break 'search Some(at);
+                }
+            }
         }
-    }
-    None
+        None
+    };
+    bad
 }
 
 // Whether every edge leads from a node to a node and has a pair of its own.
@@ -159,34 +153,34 @@ fn check_tests<S: Scale>(sizes: Sizes, tests: &[Test<S>]) -> Result<(), Defect>
 }
 
 // Whether there is a test of this number, and its label is fixed.
-fn tests_fixed<S: Scale>(sizes: Sizes, tests: &[Test<S>], which: u8) -> bool
-    ensures { result ≡ tests_fixed_lem sizes tests.now which }
+fn tests_fixed<S: Scale>(house: &House<S>, which: u8) -> bool
+    ensures { result ≡ tests_fixed_lem house.now.sizes house.now.tests.now which }
 {
-    match tests.get(which as usize) {
-        Some(test) => test.label < sizes.fixed,
+    match house.tests.get(which as usize) {
+        Some(test) => test.label < house.sizes.fixed,
         None => false,
     }
 }
 
 // Whether there is a test of this number, and its label moves.
-fn tests_moving<S: Scale>(sizes: Sizes, tests: &[Test<S>], which: u8) -> bool
-    ensures { result ≡ tests_moving_lem sizes tests.now which }
+fn tests_moving<S: Scale>(house: &House<S>, which: u8) -> bool
+    ensures { result ≡ tests_moving_lem house.now.sizes house.now.tests.now which }
 {
-    match tests.get(which as usize) {
-        Some(test) => sizes.moves(test.label),
+    match house.tests.get(which as usize) {
+        Some(test) => house.sizes.moves(test.label),
         None => false,
     }
 }
 
 // Whether a condition keeps to its kind, with `at` conditions before it: a test is of a fixed label, and the other kinds
 // name earlier conditions.
-fn keeps_kind<S: Scale>(sizes: Sizes, tests: &[Test<S>], at: usize, condition: Condition) -> bool
-    ensures { result ≡ condition_kept sizes tests.now at condition }
+fn keeps_kind<S: Scale>(house: &House<S>, at: usize, condition: Condition) -> bool
+    ensures { result ≡ condition_kept house.now.sizes house.now.tests.now at condition }
 {
     let a = (condition.a as usize) < at;
     let b = (condition.b as usize) < at;
     match condition.kind {
-        Kind::Test => tests_fixed(sizes, tests, condition.a),
+        Kind::Test => tests_fixed(house, condition.a),
         Kind::Not => a,
         Kind::Both | Kind::Either => a && b,
         Kind::Unknown(_) => false,
@@ -194,15 +188,11 @@ fn keeps_kind<S: Scale>(sizes: Sizes, tests: &[Test<S>], at: usize, condition: C
 }
 
 // The lowest condition that does not keep to its kind.
-fn bad_condition<S: Scale>(
-    sizes: Sizes,
-    tests: &[Test<S>],
-    conditions: &[Condition],
-) -> Option<usize>
-    ensures { Lowest (length conditions.now) (condition_passes sizes tests.now conditions.now) result }
+fn bad_condition<S: Scale>(house: &House<S>) -> Option<usize>
+    ensures { Lowest (length house.now.conditions.now) (condition_passes house.now.sizes house.now.tests.now house.now.conditions.now) result }
 {
-    for (at, condition) in conditions.iter().enumerate() {
-        if !keeps_kind(sizes, tests, at, *condition) {
+    for (at, condition) in house.conditions.iter().enumerate() {
+        if !keeps_kind(house, at, *condition) {
             return Some(at);
         }
     }
@@ -210,14 +200,10 @@ fn bad_condition<S: Scale>(
 }
 
 // Whether every condition keeps to its kind.
-fn check_conditions<S: Scale>(
-    sizes: Sizes,
-    tests: &[Test<S>],
-    conditions: &[Condition],
-) -> Result<(), Defect>
-    ensures { Found (condition_check sizes tests.now conditions.now) result }
+fn check_conditions<S: Scale>(house: &House<S>) -> Result<(), Defect>
+    ensures { Found (condition_check house.now.sizes house.now.tests.now house.now.conditions.now) result }
 {
-    match bad_condition(sizes, tests, conditions) {
+    match bad_condition(house) {
         Some(at) => Err(Defect::Condition { at }),
         None => Ok(()),
     }
@@ -231,34 +217,27 @@ fn body_ends(tests: usize, body: Body) -> bool
 }
 
 // Whether the head of a constraint is a test of a moving label, and its body ends among the tests.
-fn has_parts<S: Scale>(sizes: Sizes, tests: &[Test<S>], constraint: Constraint) -> bool
-    ensures { result ≡ constraint_kept sizes tests.now constraint }
+fn has_parts<S: Scale>(house: &House<S>, constraint: Constraint) -> bool
+    ensures { result ≡ constraint_kept house.now.sizes house.now.tests.now constraint }
 {
-    tests_moving(sizes, tests, constraint.head) && body_ends(tests.len(), constraint.body)
+    tests_moving(house, constraint.head) && body_ends(house.tests.len(), constraint.body)
 }
 
 // The lowest constraint of which a part is not there.
-fn bad_constraint<S: Scale>(
-    sizes: Sizes,
-    tests: &[Test<S>],
-    constraints: &[Constraint],
-) -> Option<usize>
-    ensures { result ≡ position (λ constraint. not (constraint_kept sizes tests.now constraint)) constraints.now }
+fn bad_constraint<S: Scale>(house: &House<S>) -> Option<usize>
+    ensures { result ≡ position (λ constraint. not (constraint_kept house.now.sizes house.now.tests.now constraint)) house.now.constraints.now }
 {
-    constraints
+    house
+        .constraints
         .iter()
-        .position(|constraint| !has_parts(sizes, tests, *constraint))
+        .position(|constraint| !has_parts(house, *constraint))
 }
 
 // Whether every part of every constraint is there.
-fn check_constraints<S: Scale>(
-    sizes: Sizes,
-    tests: &[Test<S>],
-    constraints: &[Constraint],
-) -> Result<(), Defect>
-    ensures { Found (constraint_check sizes tests.now constraints.now) result }
+fn check_constraints<S: Scale>(house: &House<S>) -> Result<(), Defect>
+    ensures { Found (constraint_check house.now.sizes house.now.tests.now house.now.constraints.now) result }
 {
-    match bad_constraint(sizes, tests, constraints) {
+    match bad_constraint(house) {
         Some(at) => Err(Defect::Constraint { at }),
         None => Ok(()),
     }
@@ -273,43 +252,35 @@ fn names_condition(conditions: usize, condition: Option<u8>) -> bool
 
 // Whether every part of a rule is in its range: its target moves, its delay is 1 to 63, its conditions, its body and
 // its formula are there.
-fn in_range(sizes: Sizes, tests: usize, conditions: usize, formulas: u16, rule: Rule) -> bool
-    ensures { result ≡ rule_kept sizes tests conditions formulas rule }
+fn in_range<S: Scale>(house: &House<S>, formulas: u16, rule: Rule) -> bool
+    ensures { result ≡ rule_kept house.now.sizes (length house.now.tests.now) (length house.now.conditions.now) formulas rule }
 {
-    let target = sizes.moves(rule.target);
+    let conditions = house.conditions.len();
+    let target = house.sizes.moves(rule.target);
     let delay = between(1, rule.delay as u16, 63);
     let onto = names_condition(conditions, rule.onto);
     let along = names_condition(conditions, rule.along);
     let source = names_condition(conditions, rule.source);
-    let body = body_ends(tests, rule.body);
+    let body = body_ends(house.tests.len(), rule.body);
     let formula = (rule.formula as u16) < formulas;
     target && delay && onto && along && source && body && formula
 }
 
 // The lowest rule of which a part is outside its range.
-fn bad_rule(
-    sizes: Sizes,
-    tests: usize,
-    conditions: usize,
-    formulas: u16,
-    rules: &[Rule],
-) -> Option<usize>
-    ensures { result ≡ position (λ rule. not (rule_kept sizes tests conditions formulas rule)) rules.now }
+fn bad_rule<S: Scale>(house: &House<S>, formulas: u16) -> Option<usize>
+    ensures { result ≡ position (λ rule. not (rule_kept house.now.sizes (length house.now.tests.now) (length house.now.conditions.now) formulas rule)) house.now.rules.now }
 {
-    rules.iter().position(|rule| !in_range(sizes, tests, conditions, formulas, *rule))
+    house
+        .rules
+        .iter()
+        .position(|rule| !in_range(house, formulas, *rule))
 }
 
 // Whether every part of every rule is in its range.
-fn check_rules(
-    sizes: Sizes,
-    tests: usize,
-    conditions: usize,
-    formulas: u16,
-    rules: &[Rule],
-) -> Result<(), Defect>
-    ensures { Found (rule_check sizes tests conditions formulas rules.now) result }
+fn check_rules<S: Scale>(house: &House<S>, formulas: u16) -> Result<(), Defect>
+    ensures { Found (rule_check house.now.sizes (length house.now.tests.now) (length house.now.conditions.now) formulas house.now.rules.now) result }
 {
-    match bad_rule(sizes, tests, conditions, formulas, rules) {
+    match bad_rule(house, formulas) {
         Some(at) => Err(Defect::Rule { at }),
         None => Ok(()),
     }
@@ -325,15 +296,9 @@ pub fn examine<S: Scale, B: Book<S>>(house: &House<S>, book: &B) -> Result<(), D
     check_edges(sizes, house.edges)?;
     check_fixed(house.fixed)?;
     check_tests(sizes, house.tests)?;
-    check_conditions(sizes, house.tests, house.conditions)?;
-    check_constraints(sizes, house.tests, house.constraints)?;
-    check_rules(
-        sizes,
-        house.tests.len(),
-        house.conditions.len(),
-        book.count(),
-        house.rules,
-    )?;
+    check_conditions(house)?;
+    check_constraints(house)?;
+    check_rules(house, book.count())?;
     Ok(())
 }
 

@@ -1,7 +1,7 @@
 // The refusals, by their number and place. An accepted house has number 0 and place 0 here.
 use super::tables::{Blank, Lengths, Tables, house, lawful};
 use examining::examine;
-use house::{Body, Condition, Edge, Sizes};
+use house::{Body, Condition, Edge, Kind, Sizes};
 use scale::Thousandths;
 
 fn verdict(tables: &Tables) -> (u8, usize) {
@@ -30,7 +30,7 @@ fn joined(from: u16, to: u16) -> (u8, usize) {
 }
 
 // The condition at place 2 is this one.
-fn conditioned(kind: u8, a: u8, b: u8) -> (u8, usize) {
+fn conditioned(kind: Kind, a: u8, b: u8) -> (u8, usize) {
     let mut tables = lawful();
     tables.conditions[2] = Condition { kind, a, b };
     verdict(&tables)
@@ -53,7 +53,7 @@ fn ruled(target: u8, delay: u8) -> (u8, usize) {
 }
 
 // The rule has these conditions.
-fn ruled_by(onto: u8, along: u8, source: u8) -> (u8, usize) {
+fn ruled_by(onto: Option<u8>, along: Option<u8>, source: Option<u8>) -> (u8, usize) {
     let mut tables = lawful();
     tables.rules[0].onto = onto;
     tables.rules[0].along = along;
@@ -222,16 +222,16 @@ fn edges_bounds_and_tests(rt: HostRuntime) {
 
 #[test]
 fn conditions_and_constraints(rt: HostRuntime) {
-    assert_eq!(rt; conditioned(0, 0, 9), (0, 0));
-    assert_eq!(rt; conditioned(0, 1, 0), (6, 2));
-    assert_eq!(rt; conditioned(0, 2, 0), (6, 2));
-    assert_eq!(rt; conditioned(1, 1, 9), (0, 0));
-    assert_eq!(rt; conditioned(1, 2, 0), (6, 2));
-    assert_eq!(rt; conditioned(2, 2, 0), (6, 2));
-    assert_eq!(rt; conditioned(2, 1, 2), (6, 2));
-    assert_eq!(rt; conditioned(3, 1, 1), (0, 0));
-    assert_eq!(rt; conditioned(3, 1, 2), (6, 2));
-    assert_eq!(rt; conditioned(4, 0, 0), (6, 2));
+    assert_eq!(rt; conditioned(Kind::Test, 0, 9), (0, 0));
+    assert_eq!(rt; conditioned(Kind::Test, 1, 0), (6, 2));
+    assert_eq!(rt; conditioned(Kind::Test, 2, 0), (6, 2));
+    assert_eq!(rt; conditioned(Kind::Not, 1, 9), (0, 0));
+    assert_eq!(rt; conditioned(Kind::Not, 2, 0), (6, 2));
+    assert_eq!(rt; conditioned(Kind::Both, 2, 0), (6, 2));
+    assert_eq!(rt; conditioned(Kind::Both, 1, 2), (6, 2));
+    assert_eq!(rt; conditioned(Kind::Either, 1, 1), (0, 0));
+    assert_eq!(rt; conditioned(Kind::Either, 1, 2), (6, 2));
+    assert_eq!(rt; conditioned(Kind::from(4), 0, 0), (6, 2));
     assert_eq!(rt; constrained(1, 2, 0), (0, 0));
     assert_eq!(rt; constrained(0, 0, 0), (7, 0));
     assert_eq!(rt; constrained(2, 0, 0), (7, 0));
@@ -247,10 +247,10 @@ fn rules(rt: HostRuntime) {
     assert_eq!(rt; ruled(1, 64), (8, 0));
     assert_eq!(rt; ruled(0, 1), (8, 0));
     assert_eq!(rt; ruled(2, 1), (8, 0));
-    assert_eq!(rt; ruled_by(255, 255, 255), (0, 0));
-    assert_eq!(rt; ruled_by(4, 0, 0), (8, 0));
-    assert_eq!(rt; ruled_by(0, 254, 0), (8, 0));
-    assert_eq!(rt; ruled_by(3, 3, 4), (8, 0));
+    assert_eq!(rt; ruled_by(None, None, None), (0, 0));
+    assert_eq!(rt; ruled_by(Some(4), Some(0), Some(0)), (8, 0));
+    assert_eq!(rt; ruled_by(Some(0), Some(254), Some(0)), (8, 0));
+    assert_eq!(rt; ruled_by(Some(3), Some(3), Some(4)), (8, 0));
     assert_eq!(rt; ruled_with(1, 1, 1), (0, 0));
     assert_eq!(rt; ruled_with(1, 2, 1), (8, 0));
     assert_eq!(rt; ruled_with(3, 0, 1), (8, 0));

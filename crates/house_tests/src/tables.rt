@@ -3,7 +3,7 @@ ghost use Rattle.std.specs.Prelude.{◌≡◌, ℕ, nat_lt};
 ghost use Rattle.std.proofs.Common.{rules};
 
 use book::Book;
-use house::{Body, Condition, Constraint, Edge, House, Rule, Sizes, Test};
+use house::{Body, Condition, Constraint, Edge, House, Kind, Rule, Sizes, Test};
 use scale::{Scale, Thousandths};
 
 // A book of so many formulas, each of which says loose.
@@ -57,7 +57,7 @@ pub fn lawful() -> Tables {
     let bound = Thousandths::loose();
     let test = Test { label: 0, bound };
     let condition = Condition {
-        kind: 0,
+        kind: Kind::Test,
         a: 0,
         b: 9,
     };
@@ -68,9 +68,9 @@ pub fn lawful() -> Tables {
     let rule = Rule {
         target: 1,
         delay: 1,
-        onto: 255,
-        along: 0,
-        source: 3,
+        onto: None,
+        along: Some(0),
+        source: Some(3),
         body: Body { first: 2, count: 0 },
         formula: 1,
     };
@@ -106,17 +106,17 @@ pub fn lawful() -> Tables {
         bound: Thousandths::none(),
     };
     tables.conditions[1] = Condition {
-        kind: 1,
+        kind: Kind::Not,
         a: 0,
         b: 9,
     };
     tables.conditions[2] = Condition {
-        kind: 2,
+        kind: Kind::Both,
         a: 0,
         b: 1,
     };
     tables.conditions[3] = Condition {
-        kind: 3,
+        kind: Kind::Either,
         a: 2,
         b: 2,
     };

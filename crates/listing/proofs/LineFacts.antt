@@ -1,26 +1,15 @@
 -- Lines of a listing, one after the other. Assumes nothing.
 use Rattle.std.proofs.Common.{◌≡◌, ℕ, zero, suc, ◌+◌, ◌<◌, Bool, true, false, ltb, List, [], ◌∷◌, ◌++◌, length, get_or, take, sym, refl, ap, ◌∙◌, append_assoc, append-nil, add-zero, add-suc, suc-add, zero-add, add-one, arith}
-use Rattle.points.specs.Points.{Points, Same, within}
-use Rattle.points.proofs.Decided.{each_use, each_from, same_test}
+use Rattle.points.specs.Points.{Points, is_loose}
 use Rattle.house.specs.declared.tables.Sizes.{Sizes}
-use Rattle.listing.specs.Lines.{cell_line, is_loose_lem, line_of, lines_from}
-
--- what has the same points is within the same bounds
-within_of : (n : ℕ) (a c b : Points) → Same a c → within n a b ≡ within n c b
-unfolding within
-within_of n a c b e =
-    same_test _ _ (λ h. each_from n _ (λ p l. rw (← e p) (each_use n _ h p l))) (λ h. each_from n _ (λ p l. rw (e p) (each_use n _ h p l)))
+use Rattle.listing.specs.Lines.{cell_line, line_of, lines_from}
 
 module _ {S : Type 0} (n : ℕ) (has : S → Points) (form : S → List ℕ) where
-  pub told_loose : (x y : S) (b : Bool) → Same (has y) (λ p. ltb p n) → b ≡ within n (has y) (has x) → b ≡ is_loose_lem n has form x
-  unfolding is_loose_lem
-  told_loose x y b loose is = is ∙ within_of n (has y) (λ p. ltb p n) (has x) loose
-
-  pub loose_line : (s : Sizes) (i : ℕ) (x : S) (b : Bool) → b ≡ is_loose_lem n has form x → b ≡ true → line_of n has form s i x ≡ []
+  pub loose_line : (s : Sizes) (i : ℕ) (x : S) (b : Bool) → b ≡ is_loose n (has x) → b ≡ true → line_of n has form s i x ≡ []
   unfolding line_of
   loose_line s i x b is yes' = rw (← is, yes')
 
-  pub bound_line : (s : Sizes) (i : ℕ) (x : S) (b : Bool) → b ≡ is_loose_lem n has form x → b ≡ false → line_of n has form s i x ≡ cell_line s i (form x)
+  pub bound_line : (s : Sizes) (i : ℕ) (x : S) (b : Bool) → b ≡ is_loose n (has x) → b ≡ false → line_of n has form s i x ≡ cell_line s i (form x)
   unfolding line_of
   bound_line s i x b is no' = rw (← is, no')
 

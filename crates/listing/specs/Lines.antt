@@ -1,6 +1,6 @@
 -- The listing of a course: a line for each cell that is not loose.
-use Rattle.std.specs.Prelude.{ℕ, suc, ◌+◌, ◌*◌, ◌/◌, ◌%◌, max, Bool, cond, List, [], ◌∷◌, ◌++◌, codes, decimal, nat_lt, slice_index}
-use Rattle.points.specs.Points.{Points, within}
+use Rattle.std.specs.Prelude.{ℕ, suc, ◌+◌, ◌*◌, ◌/◌, ◌%◌, max, Bool, cond, List, [], ◌∷◌, ◌++◌, codes, decimal, slice_index}
+use Rattle.points.specs.Points.{Points, is_loose}
 use Rattle.house.specs.declared.tables.Sizes.{Sizes}
 use Rattle.house.specs.Cells.{components}
 
@@ -28,13 +28,9 @@ cell_line s i form =
     ++ (decimal (number (slice_index form 0) (slice_index form 1)) ++ (codes " " ++ (decimal (number (slice_index form 2) (slice_index form 3)) ++ codes "\n"))))))))
 
 module _ {S : Type 0} (n : ℕ) (has : S → Points) (form : S → List ℕ) where
-  -- a bound is loose: all points of the scale are within it
-  unfoldable pub is_loose_lem : S → Bool
-  is_loose_lem x = within n (λ p. nat_lt p n) (has x)
-
   -- a loose cell has no line
   unfoldable pub line_of : Sizes → ℕ → S → List ℕ
-  line_of s i x = cond (is_loose_lem x) [] (cell_line s i (form x))
+  line_of s i x = cond (is_loose n (has x)) [] (cell_line s i (form x))
 
   -- the lines of the cells from place i on, in their order
   unfoldable pub lines_from : Sizes → ℕ → List S → List ℕ

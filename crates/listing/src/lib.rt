@@ -1,20 +1,13 @@
 // The listing of a course: a line for each cell that is not loose, in the order of cells.
 #![tactic(auto)]
 
-ghost use Rattle.std.specs.Prelude.{◌≡◌, ◌++◌, length, IfOk, string_bytes, OnOk};
-ghost use Rattle.listing.specs.Lines.{is_loose_lem, cell_line, line_of, listing_of};
+ghost use Rattle.std.specs.Prelude.{◌≡◌, ◌++◌, IfOk, string_bytes, OnOk};
+ghost use Rattle.listing.specs.Lines.{cell_line, line_of, listing_of};
 
 use house::Sizes;
 use scale::{Recorded, Scale};
 use std::alloc::{AllocError, Global};
 use std::fmt;
-
-// Whether a bound has all points of the scale.
-fn is_loose<S: Recorded>(bound: S) -> bool
-    ensures { result ≡ is_loose_lem S.Scale.size S.Scale.has S.Recorded.form bound }
-{
-    S::loose().within(bound)
-}
 
 // Writes the line of the cell at a place, whose bound has these four bytes.
 fn put_line(out: &mut String, sizes: Sizes, at: usize, form: [u8; 4]) -> fmt::Result
@@ -28,7 +21,7 @@ fn put_line(out: &mut String, sizes: Sizes, at: usize, form: [u8; 4]) -> fmt::Re
     let [a0, a1, b0, b1] = form;
     let a = u16::from_be_bytes([a0, a1]);
     let b = u16::from_be_bytes([b0, b1]);
-    write!(out, "{hour} {component} {label} {a} {b}\n")?;
+    writeln!(out, "{hour} {component} {label} {a} {b}")?;
     Ok(())
 }
 
@@ -36,7 +29,7 @@ fn put_line(out: &mut String, sizes: Sizes, at: usize, form: [u8; 4]) -> fmt::Re
 fn put_cell<S: Recorded>(out: &mut String, sizes: Sizes, at: usize, cell: S) -> fmt::Result
     ensures { OnOk result (string_bytes out.new ≡ string_bytes out.old ++ line_of S.Scale.size S.Scale.has S.Recorded.form sizes at cell) }
 {
-    if is_loose(cell) {
+    if cell.is_loose() {
         return Ok(());
     }
     put_line(out, sizes, at, cell.to_bytes())

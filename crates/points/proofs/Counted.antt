@@ -1,6 +1,7 @@
 -- Counts over the numbers below a limit. Assumes nothing.
 use Rattle.std.proofs.Common.{◌≡◌, ℕ, zero, suc, ◌+◌, ◌<◌, ◌≤◌, Bool, true, false, cond, ◌||◌, ◌≢◌, sym, refl, subst, ⊎_elim, le_of_suc-le-suc, eq-or-lt_of_le, arith}
 use Rattle.std.proofs.lemmas.Bool.{true≢false, or_cases, or_left, or_right}
+use Rattle.std.proofs.lemmas.Bool.Decides.{nat_tests}
 use Rattle.points.specs.Points.{some_below, count_below}
 
 pub some_use : (n : ℕ) (f : ℕ → Bool) → some_below n f ≡ true → (k : ℕ) × (k < n) × (f k ≡ true)
@@ -12,13 +13,7 @@ some_use (suc n) f e =
 pub count_mono : (n : ℕ) (f g : ℕ → Bool) → ((k : ℕ) → k < n → f k ≡ true → g k ≡ true) → count_below n f ≤ count_below n g
 unfolding count_below
 count_mono zero f g all = omega arith
-count_mono (suc n) f g all = one (f n) (g n) (all n (omega arith)) (count_mono n f g (λ k l. all k (omega arith)))
-  where
-    one : (a b : Bool) → (a ≡ true → b ≡ true) → count_below n f ≤ count_below n g → count_below n f + cond a 1 0 ≤ count_below n g + cond b 1 0
-    one true true h le = omega arith
-    one true false h le = absurd (true≢false (sym (h refl)))
-    one false true h le = omega arith
-    one false false h le = omega arith
+count_mono (suc n) f g all = grind (arith, nat_tests, count_mono n f g (λ k l. all k (omega arith)), all n (omega arith))
 
 pub count_none : (n : ℕ) (f : ℕ → Bool) → ((k : ℕ) → f k ≡ false) → count_below n f ≡ 0
 unfolding count_below
@@ -42,10 +37,7 @@ count_one (suc n) f g k b l other here apart =
     (eq-or-lt_of_le (le_of_suc-le-suc l))
   where
     sum : (x y b : Bool) → x ≡ (y || b) → (b ≡ true → y ≡ false) → count_below n f ≡ count_below n g → count_below n f + cond x 1 0 ≡ count_below n g + cond y 1 0 + cond b 1 0
-    sum x true true h a e = absurd (true≢false (a refl))
-    sum x true false h a e = rw h (omega arith)
-    sum x false true h a e = rw h (omega arith)
-    sum x false false h a e = rw h (omega arith)
+    sum x y b h a e = grind (arith, nat_tests)
 
     last : k ≡ n → count_below n f + cond (f n) 1 0 ≡ count_below n g + cond (g n) 1 0 + cond b 1 0
     last e =
@@ -56,11 +48,7 @@ count_one (suc n) f g k b l other here apart =
 pub count_le : (n : ℕ) (f : ℕ → Bool) → count_below n f ≤ n
 unfolding count_below
 count_le zero f = omega arith
-count_le (suc n) f = one (f n) (count_le n f)
-  where
-    one : (b : Bool) → count_below n f ≤ n → count_below n f + cond b 1 0 ≤ suc n
-    one true le = omega arith
-    one false le = omega arith
+count_le (suc n) f = grind (arith, nat_tests, count_le n f)
 
 pub some_from : (n : ℕ) (f : ℕ → Bool) (k : ℕ) → k < n → f k ≡ true → some_below n f ≡ true
 unfolding some_below

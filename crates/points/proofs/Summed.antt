@@ -1,6 +1,6 @@
 -- Sums over the numbers below a limit: where a smaller one is no less, nothing is smaller. Assumes nothing.
-use Rattle.std.proofs.Common.{◌≡◌, ℕ, zero, suc, ◌+◌, ◌<◌, ◌≤◌, Bool, true, false, cond, sym, refl, subst, ⊎_elim, le_of_suc-le-suc, eq-or-lt_of_le, arith}
-use Rattle.std.proofs.lemmas.Bool.{true≢false}
+use Rattle.std.proofs.Common.{◌≡◌, ℕ, zero, suc, ◌+◌, ◌<◌, ◌≤◌, Bool, true, cond, sym, subst, ⊎_elim, le_of_suc-le-suc, eq-or-lt_of_le, arith}
+use Rattle.std.proofs.lemmas.Bool.Decides.{nat_tests}
 use Rattle.points.specs.Points.{count_below}
 use Rattle.points.proofs.Counted.{count_mono}
 
@@ -34,7 +34,4 @@ count_same (suc n) f g all e k l =
   where
     one : (a b : Bool) → (a ≡ true → b ≡ true) → count_below n f ≤ count_below n g → count_below n g + cond b 1 0 ≤ count_below n f + cond a 1 0 →
         (count_below n g ≤ count_below n f) × (b ≡ true → a ≡ true)
-    one true true h le e = (omega arith, λ _. refl)
-    one true false h le e = absurd (true≢false (sym (h refl)))
-    one false true h le e = absurd (omega arith)
-    one false false h le e = (omega arith, λ q. q)
+    one a b h le e = grind (arith, nat_tests)

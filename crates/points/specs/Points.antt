@@ -42,6 +42,10 @@ within n a b = each_below n (λ p. implies (a p) (b p))
 unfoldable pub void : ℕ → Points → Bool
 void n a = each_below n (λ p. not (a p))
 
+-- on a scale of n points: a has every point
+unfoldable pub is_loose : ℕ → Points → Bool
+is_loose n a = each_below n a
+
 -- some number below n passes
 unfoldable pub some_below : ℕ → (ℕ → Bool) → Bool
 some_below zero f = false

@@ -1,4 +1,4 @@
 mod Filling
 mod Taking
-mod Edges
+mod Frames
 mod Whole

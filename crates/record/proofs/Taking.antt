@@ -1,5 +1,6 @@
 -- Records that are taken one after the other. Assumes nothing.
-use Rattle.std.proofs.Common.{◌≡◌, ℕ, ◌<◌, ◌≤◌, List, [], ◌∷◌, ◌++◌, length, get_or, Some, None, Ok, Err, Option, sym, refl, ap, ◌∙◌, ⊎_elim, mul_comm, arith}
+use Rattle.std.proofs.Common.{◌≡◌, ℕ, ◌<◌, ◌≤◌, List, [], ◌∷◌, ◌++◌, length, get_or, Some, None, Ok, Err, Option, Result, subst, sym, refl, ap, ◌∙◌, ⊎_elim, mul_comm, arith}
+use Rattle.std.specs.Result.{MatchResult, IsErrAnd}
 use Rattle.std.proofs.lemmas.Nat.{mul-add-lt}
 use Rattle.std.proofs.lemmas.List.{get_or_append_left, take-append-le, take_at, length_push, get_or_push}
 use Rattle.std.proofs.lemmas.Bool.{cases_lt}
@@ -11,17 +12,16 @@ use Rattle.record_line.specs.declared.LineFault.TheVariants.{Bytes as NoRecord, 
 use Rattle.record_line.specs.declared.Record.{Record}
 use Rattle.record_line.specs.declared.Record.TheVariants.{Sizes as S, Edge as E, Fixed as X, Test as T, Condition as C, Constraint as K, Rule as R, Step as Q, Fact as F}
 use Rattle.record_line.specs.Lines.{Parsed}
-use Rattle.record_entry.specs.declared.Counts.{Counts}
 use Rattle.record_entry.specs.declared.EntryFault.{EntryFault}
 use Rattle.record_entry.specs.declared.EntryFault.TheVariants.{House as NoPlace, Plan as NotFiled}
 use Rattle.record_entry.specs.declared.Tables.{Tables}
-use Rattle.record_entry.specs.Entries.{Rooms, rooms_of, Kept, Fits, Unfit, LooseAt, Entered, Lent}
+use Rattle.record_entry.specs.Entries.{Rooms, Counts, rooms_of, counts_of, Kept, Fits, Unfit, LooseAt, Entered, Lent}
 use Rattle.record_entry.specs.Parts.{edge_in, test_in, condition_in, constraint_in, rule_in, step_in, fact_in, mark_in, fixed_place}
 use Rattle.record.specs.declared.faults.RecordFault.{RecordFault}
 use Rattle.record.specs.declared.faults.RecordFault.TheVariants.{Line, Entry}
 use Rattle.record.specs.Contents.{pick, bound_at, Stays, counts_after, fixed_places_lem}
 use Rattle.record.specs.Faults.{placed}
-use Rattle.record.specs.Takes.{LooseBelow, MarkedLoose, StillLoose, Enters, Denied, First, Taken, TakeDoes, TakeAllDoes}
+use Rattle.record.specs.Takes.{Fresh, MarkedLoose, StillLoose, Enters, Denied, First, Taken, TakeDoes, TakeAllDoes}
 use Rattle.record.proofs.Filling.{filled_long, picked_more, laid_more, InPlaces}
 
 place_in : (s : Sizes) (c l long : ℕ) → c < components s → l < s.fixed → fixed_place s c l < long → fixed_place s c l < fixed_places_lem s long
@@ -80,10 +80,9 @@ module _ {B : Type 0} (n : ℕ) (has : B → Points) (form : B → List ℕ) (li
       rw (here, same, take_at rs (r ∷ []) (length rs) refl) (parsed, enters))
       (cases_lt i (length rs))
 
-  -- the first records have been taken, with these counts
-  pub record So (rs : List (Record B)) (t : Tables B) (c : Counts) (filed : ℕ) : Type 0 where
+  -- the first records have been taken, and so many facts are filed
+  pub record So (rs : List (Record B)) (t : Tables B) (filed : ℕ) : Type 0 where
     pub taken : Taken n has form lines s t₀ rs t
-    pub counts : c ≡ counts_after s (rooms_of t₀) rs
     pub filings : filed ≡ length (pick fact_in rs)
 
   rooms_same : (rs : List (Record B)) (t : Tables B) → Taken n has form lines s t₀ rs t → rooms_of t ≡ rooms_of t₀
@@ -98,32 +97,32 @@ module _ {B : Type 0} (n : ℕ) (has : B → Points) (form : B → List ℕ) (li
       let e8 = filled_long _ _ _ h.held.facts in
       rw (e1, e2, e3, e4, e5, e6, e7, e8) refl
 
-  module _ (wide : LooseBelow n has (fixed_places_lem s (length t₀.fixed.now)) t₀.fixed.now) (rs : List (Record B)) (t : Tables B) (c : Counts) (filed : ℕ) (so : So rs t c filed) where
+  module _ (fresh : Fresh n has s t₀) (rs : List (Record B)) (t : Tables B) (filed : ℕ) (so : So rs t filed) where
     -- what is loose in the table is what is loose after the records
-    still : (p : ℕ) → p < fixed_places_lem s (length t₀.fixed.now) → Iff (LooseAt n has t.fixed.now p) (StillLoose n has s rs p)
-    still p l = loose_at n has (bound_at None (pick (mark_in s) rs) p) t₀.fixed.now t.fixed.now p (wide p l) (so.taken.fixed.here p l)
+    still : (p : ℕ) → p < fixed_places_lem s (length t₀.fixed.table.now) → Iff (LooseAt n has t.fixed.table.now p) (StillLoose n has s rs p)
+    still p l = loose_at n has (bound_at None (pick (mark_in s) rs) p) t₀.fixed.table.now t.fixed.table.now p (fresh.loose p l) (so.taken.fixed.here p l)
 
-    entered_here : (r : Record B) → Fits s c filed (rooms_of t) (LooseAt n has t.fixed.now) r → Enters n has s (rooms_of t₀) rs r
+    entered_here : (r : Record B) → Fits s (counts_of t) filed (rooms_of t) (LooseAt n has t.fixed.table.now) r → Enters n has s (rooms_of t₀) rs r
     entered_here r h =
-        (fits_same s (counts_after s (rooms_of t₀) rs) (length (pick fact_in rs)) (rooms_of t₀) (LooseAt n has t.fixed.now) (StillLoose n has s rs) still r).0
-        (rw (so.counts, so.filings, rooms_same rs t so.taken) at h)
+        (fits_same s (counts_after s (rooms_of t₀) rs) (length (pick fact_in rs)) (rooms_of t₀) (LooseAt n has t.fixed.table.now) (StillLoose n has s rs) still r).0
+        (rw (so.taken.counts, so.filings, rooms_same rs t so.taken) at h)
 
-    denied_here : (r : Record B) (fault : EntryFault) → Unfit s c filed (rooms_of t) (LooseAt n has t.fixed.now) r fault → Denied n has s (rooms_of t₀) rs r fault
+    denied_here : (r : Record B) (fault : EntryFault) → Unfit s (counts_of t) filed (rooms_of t) (LooseAt n has t.fixed.table.now) r fault → Denied n has s (rooms_of t₀) rs r fault
     denied_here r fault h =
-        unfit_same s (counts_after s (rooms_of t₀) rs) (length (pick fact_in rs)) (rooms_of t₀) (LooseAt n has t.fixed.now) (StillLoose n has s rs) still r fault
-        (rw (so.counts, so.filings, rooms_same rs t so.taken) at h)
+        unfit_same s (counts_after s (rooms_of t₀) rs) (length (pick fact_in rs)) (rooms_of t₀) (LooseAt n has t.fixed.table.now) (StillLoose n has s rs) still r fault
+        (rw (so.taken.counts, so.filings, rooms_same rs t so.taken) at h)
 
-    pub so_more : (r : Record B) (t' : Tables B) (c' : Counts) (filed' : ℕ) → Parsed form (get_or lines (length rs) []) (Ok r) → Fits s c filed (rooms_of t) (LooseAt n has t.fixed.now) r →
-        Entered s r t c filed t' c' filed' → So (rs ++ r ∷ []) t' c' filed'
-    so_more r t' c' filed' parsed fits new =
+    pub so_more : (r : Record B) (t' : Tables B) (filed' : ℕ) → Parsed form (get_or lines (length rs) []) (Ok r) → Fits s (counts_of t) filed (rooms_of t) (LooseAt n has t.fixed.table.now) r →
+        Entered s r t filed t' filed' → So (rs ++ r ∷ []) t' filed'
+    so_more r t' filed' parsed fits new =
         let held = so.taken.held in
         let enters = entered_here r fits in
-        let edges = picked_more edge_in rs r _ _ _ _ _ (ap (λ k. k.edges) so.counts) held.edges new.edges in
-        let tests = picked_more test_in rs r _ _ _ _ _ (ap (λ k. k.tests) so.counts) held.tests new.tests in
-        let conditions = picked_more condition_in rs r _ _ _ _ _ (ap (λ k. k.conditions) so.counts) held.conditions new.conditions in
-        let constraints = picked_more constraint_in rs r _ _ _ _ _ (ap (λ k. k.constraints) so.counts) held.constraints new.constraints in
-        let rules = picked_more rule_in rs r _ _ _ _ _ (ap (λ k. k.rules) so.counts) held.rules new.rules in
-        let steps = picked_more step_in rs r _ _ _ _ _ (ap (λ k. k.steps) so.counts) held.steps new.steps in
+        let edges = picked_more edge_in rs r _ _ _ _ _ (ap (λ k. k.edges) so.taken.counts) held.edges new.edges in
+        let tests = picked_more test_in rs r _ _ _ _ _ (ap (λ k. k.tests) so.taken.counts) held.tests new.tests in
+        let conditions = picked_more condition_in rs r _ _ _ _ _ (ap (λ k. k.conditions) so.taken.counts) held.conditions new.conditions in
+        let constraints = picked_more constraint_in rs r _ _ _ _ _ (ap (λ k. k.constraints) so.taken.counts) held.constraints new.constraints in
+        let rules = picked_more rule_in rs r _ _ _ _ _ (ap (λ k. k.rules) so.taken.counts) held.rules new.rules in
+        let steps = picked_more step_in rs r _ _ _ _ _ (ap (λ k. k.steps) so.taken.counts) held.steps new.steps in
         let facts = picked_more fact_in rs r _ _ _ _ _ so.filings held.facts new.facts in
         record {
           taken = record {
@@ -138,14 +137,14 @@ module _ {B : Type 0} (n : ℕ) (has : B → Points) (form : B → List ℕ) (li
               facts = facts.0;
             };
             fixed = laid_more (mark_in s) rs r _ _ _ _ (omega arith) (fits_mark s (counts_after s (rooms_of t₀) rs) (length (pick fact_in rs)) (rooms_of t₀) (StillLoose n has s rs) r enters) so.taken.fixed new.fixed;
+            counts = counts_from (counts_of t') _ _ _ _ _ _ _ edges.1 (new.count_of_fixed ∙ ap (λ k. k.fixed) so.taken.counts) tests.1 conditions.1 constraints.1 rules.1 steps.1;
           };
-          counts = counts_from c' _ _ _ _ _ _ _ edges.1 (new.count_of_fixed ∙ ap (λ k. k.fixed) so.counts) tests.1 conditions.1 constraints.1 rules.1 steps.1;
           filings = facts.1;
         }
 
   -- no record has been taken
-  pub so_none : (c : Counts) (filed : ℕ) → c ≡ counts_after {B = B} s (rooms_of t₀) [] → filed ≡ 0 → So [] t₀ c filed
-  so_none c filed e f = record {
+  pub so_none : (filed : ℕ) → Fresh n has s t₀ → filed ≡ 0 → So [] t₀ filed
+  so_none filed fresh f = record {
     taken = record {
       first = λ i lt r same. absurd (omega arith);
       held = record {
@@ -158,8 +157,8 @@ module _ {B : Type 0} (n : ℕ) (has : B → Points) (form : B → List ℕ) (li
         facts = (omega arith, refl);
       };
       fixed = record { long = refl; here = λ p l d. refl; behind = λ p l d. refl };
+      counts = fresh.counts;
     };
-    counts = e;
     filings = f;
   }
 
@@ -176,19 +175,34 @@ module _ {B : Type 0} (n : ℕ) (has : B → Points) (form : B → List ℕ) (li
       facts = rw k.facts h.held.facts;
     };
     fixed = rw k.fixed h.fixed;
+    counts = k.counts ∙ h.counts;
   }
 
-  module _ (wide : LooseBelow n has (fixed_places_lem s (length t₀.fixed.now)) t₀.fixed.now) (rs : List (Record B)) (t : Tables B) (c : Counts) (d : Draft) (so : So rs t c d.count) where
+  module _ (fresh : Fresh n has s t₀) (rs : List (Record B)) (t : Tables B) (d : Draft) (so : So rs t d.count) where
     -- a record that is refused stops the taking
-    pub so_stops : (fault : RecordFault) (i : ℕ) (t' : Tables B) (c' : Counts) (d' : Draft) → length rs ≡ i → i < length lines →
-        TakeDoes n has form (get_or lines i []) s t c d (Err fault) t' c' d' → TakeAllDoes n has form lines s t₀ (Err (placed fault i)) t'
-    so_stops (Line NoRecord) i t' c' d' e lt h = (rs, e, lt, taken_kept rs t t' h.1 so.taken, h.0)
-    so_stops (Line (NoBound cause)) i t' c' d' e lt h = (rs, e, lt, taken_kept rs t t' h.1 so.taken, h.0)
-    so_stops (Entry NoPlace) i t' c' d' e lt (r, parsed, h) =
-        (rs, e, lt, taken_kept rs t t' h.1 so.taken, (r, parsed, denied_here wide rs t c d.count so r NoPlace h.0))
-    so_stops (Entry (NotFiled cause)) i t' c' d' e lt (r, parsed, h) =
-        (rs, e, lt, taken_kept rs t t' h.1 so.taken, (r, parsed, denied_here wide rs t c d.count so r (NotFiled cause) h.0))
+    pub so_stops : (fault : RecordFault) (i : ℕ) (t' : Tables B) (d' : Draft) → length rs ≡ i → i < length lines →
+        TakeDoes n has form (get_or lines i []) s t d (Err fault) t' d' → TakeAllDoes n has form lines s t₀ (Err (placed fault i)) t'
+    so_stops (Line NoRecord) i t' d' e lt h = (rs, e, lt, taken_kept rs t t' h.1 so.taken, h.0)
+    so_stops (Line (NoBound cause)) i t' d' e lt h = (rs, e, lt, taken_kept rs t t' h.1 so.taken, h.0)
+    so_stops (Entry NoPlace) i t' d' e lt (r, parsed, h) =
+        (rs, e, lt, taken_kept rs t t' h.1 so.taken, (r, parsed, denied_here fresh rs t d.count so r NoPlace h.0))
+    so_stops (Entry (NotFiled cause)) i t' d' e lt (r, parsed, h) =
+        (rs, e, lt, taken_kept rs t t' h.1 so.taken, (r, parsed, denied_here fresh rs t d.count so r (NotFiled cause) h.0))
 
 -- what is lent stays lent
 pub lent_on : {B : Type 0} (t t₁ t' : Tables B) → Lent t t₁ → Lent t₁ t' → Lent t t'
 lent_on t t₁ t' a b = (b.0 ∙ a.0, b.1 ∙ a.1, b.2 ∙ a.2, b.3 ∙ a.3, b.4 ∙ a.4, b.5 ∙ a.5, b.6 ∙ a.6, b.7 ∙ a.7)
+
+-- a result of which the error alone is changed
+module _ {D E : Type 0} (told : D → E → Type 0) (r : Result (Unit {0}) D) (q : Result (Unit {0}) E) (cases : MatchResult r (λ x. q ≡ Ok x) (λ d. IsErrAnd q (told d))) where
+  pub passed : (u : Unit {0}) → q ≡ Ok u → r ≡ Ok u
+  passed u e = elim r as (λ v. MatchResult v (λ x. q ≡ Ok x) (λ d. IsErrAnd q (told d)) → v ≡ Ok u) [
+    | Ok x ↦ λ same. cc
+    | Err d ↦ λ same. absurd (subst (λ v. IsErrAnd v (told d)) e same)
+  ] cases
+
+  pub failed : (f : E) → q ≡ Err f → (d : D) × (r ≡ Err d) × told d f
+  failed f e = elim r as (λ v. MatchResult v (λ x. q ≡ Ok x) (λ d. IsErrAnd q (told d)) → (d : D) × (v ≡ Err d) × told d f) [
+    | Ok x ↦ λ same. cc
+    | Err d ↦ λ same. (d, refl, subst (λ v. IsErrAnd v (told d)) e same)
+  ] cases

@@ -3,9 +3,8 @@ use Rattle.std.specs.Prelude.{◌≡◌, ℕ, ◌*◌, ◌<◌, ◌≤◌, min, 
 use Rattle.house.specs.declared.tables.Sizes.{Sizes}
 use Rattle.house.specs.Cells.{components}
 use Rattle.record_line.specs.declared.Record.{Record}
-use Rattle.record_entry.specs.declared.Counts.{Counts}
 use Rattle.record_entry.specs.declared.Tables.{Tables}
-use Rattle.record_entry.specs.Entries.{Rooms}
+use Rattle.record_entry.specs.Entries.{Rooms, Counts}
 use Rattle.record_entry.specs.Parts.{Mark, edge_in, test_in, condition_in, constraint_in, rule_in, step_in, fact_in}
 
 -- one part more, or none
@@ -57,10 +56,10 @@ module _ {B : Type 0} where
 
   -- each table has its records, in their order, and behind them what stood there before
   pub record Held (rs : List (Record B)) (t t' : Tables B) : Type 0 where
-    pub edges : Filled (pick edge_in rs) t.edges.now t'.edges.now
-    pub tests : Filled (pick test_in rs) t.tests.now t'.tests.now
-    pub conditions : Filled (pick condition_in rs) t.conditions.now t'.conditions.now
-    pub constraints : Filled (pick constraint_in rs) t.constraints.now t'.constraints.now
-    pub rules : Filled (pick rule_in rs) t.rules.now t'.rules.now
-    pub steps : Filled (pick step_in rs) t.steps.now t'.steps.now
+    pub edges : Filled (pick edge_in rs) t.edges.table.now t'.edges.table.now
+    pub tests : Filled (pick test_in rs) t.tests.table.now t'.tests.table.now
+    pub conditions : Filled (pick condition_in rs) t.conditions.table.now t'.conditions.table.now
+    pub constraints : Filled (pick constraint_in rs) t.constraints.table.now t'.constraints.table.now
+    pub rules : Filled (pick rule_in rs) t.rules.table.now t'.rules.table.now
+    pub steps : Filled (pick step_in rs) t.steps.table.now t'.steps.table.now
     pub facts : Filled (pick fact_in rs) t.facts.now t'.facts.now

@@ -1,5 +1,6 @@
 -- The frame of a record file: records of sixteen bytes, one of which has the sizes.
-use Rattle.std.specs.Prelude.{◌≡◌, ℕ, ◌*◌, ◌/◌, ◌%◌, ◌<◌, ◌≤◌, List, length, Ok, Err, Result, slice_index}
+use Rattle.std.specs.Prelude.{◌≡◌, ℕ, ◌*◌, ◌/◌, ◌%◌, ◌<◌, ◌≤◌, List, [], length, Ok, Err, Result, slice_index, slice_index_or}
+use Rattle.record_line.specs.Lines.{byte}
 use Rattle.record.specs.declared.FrameFault.{FrameFault}
 use Rattle.record.specs.declared.FrameFault.TheVariants.{Length, SizesRecord}
 
@@ -18,6 +19,14 @@ letter bytes i = slice_index bytes (16 * i)
 -- record k has the letter S, and no other record has it
 abbrev pub OnlySizes : List ℕ → ℕ → Type 0
 OnlySizes bytes k = (k < records bytes) × (letter bytes k ≡ 83) × ((j : ℕ) → j < records bytes → letter bytes j ≡ 83 → j ≡ k)
+
+-- row k has the letter S
+abbrev pub HasS : List (List ℕ) → ℕ → Type 0
+HasS rows k = byte (slice_index_or rows k []) 0 ≡ 83
+
+-- it is the first that has it
+abbrev pub FirstS : List (List ℕ) → ℕ → Type 0
+FirstS rows k = (k < length rows) × HasS rows k × ((j : ℕ) → j < k → ¬ HasS rows j)
 
 -- the length is judged first, then that there is one S record, which is found
 abbrev pub Framed : List ℕ → Result ℕ FrameFault → Type 0

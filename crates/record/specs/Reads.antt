@@ -1,5 +1,5 @@
 -- What reading a file gives.
-use Rattle.std.specs.Prelude.{◌≡◌, ℕ, ◌+◌, ◌<◌, ◌≤◌, cond, List, [], ◌∷◌, length, Some, None, Ok, Err, Option, Result, ◌==◌, slice_index_or}
+use Rattle.std.specs.Prelude.{◌≡◌, ℕ, ◌<◌, ◌≤◌, count_by, List, [], length, Some, None, Ok, Err, Option, Result, ◌==◌, slice_index_or}
 use Rattle.points.specs.Points.{Points, Loose}
 use Rattle.std.specs.Simd.{first_chunks}
 use Rattle.house.specs.declared.tables.Sizes.{Sizes}
@@ -9,7 +9,7 @@ use Rattle.record_line.specs.declared.Record.{Record}
 use Rattle.record_line.specs.Lines.{byte, word}
 use Rattle.record_entry.specs.declared.EntryFault.TheVariants.{House as NoPlace, Plan as NotFiled}
 use Rattle.record_entry.specs.declared.Tables.{Tables}
-use Rattle.record_entry.specs.Entries.{Kept, rooms_of}
+use Rattle.record_entry.specs.Entries.{Kept, rooms_of, counts_of}
 use Rattle.record_entry.specs.Parts.{Mark, fact_in, mark_in}
 use Rattle.record.specs.declared.faults.BytesFault.TheVariants.{Frame, Record as BytesRecord}
 use Rattle.record.specs.declared.faults.Fault.{Fault}
@@ -26,8 +26,7 @@ rows bytes = first_chunks 16 (records bytes) bytes
 
 -- how many records have the letter E
 abbrev pub edge_records_lem : List (List ℕ) → ℕ
-edge_records_lem [] = 0
-edge_records_lem (line ∷ lines) = cond (byte line 0 == 69) 1 0 + edge_records_lem lines
+edge_records_lem lines = count_by (λ line. byte line 0 == 69) lines
 
 -- the sizes in an S record, with so many edges
 abbrev pub sizes_of_lem : List ℕ → ℕ → Sizes
@@ -44,6 +43,18 @@ module _ {B : Type 0} (n : ℕ) (has : B → Points) where
     pub here : LooseBelow n has (fixed_places_lem s (length t)) t'
     pub behind : (p : ℕ) → fixed_places_lem s (length t) ≤ p → (d : B) → slice_index_or t' p d ≡ slice_index_or t p d
 
+  -- the tables have no records, and the places of the fixed bounds are loose; all else that they hold stays
+  pub record Started (s : Sizes) (t t' : Tables B) : Type 0 where
+    pub edges : t'.edges.table.now ≡ t.edges.table.now
+    pub fixed : Loosened s t.fixed.table.now t'.fixed.table.now
+    pub tests : t'.tests.table.now ≡ t.tests.table.now
+    pub conditions : t'.conditions.table.now ≡ t.conditions.table.now
+    pub constraints : t'.constraints.table.now ≡ t.constraints.table.now
+    pub rules : t'.rules.table.now ≡ t.rules.table.now
+    pub steps : t'.steps.table.now ≡ t.steps.table.now
+    pub facts : t'.facts.now ≡ t.facts.now
+    pub counts : counts_of t' ≡ counts_after {B = B} s (rooms_of t) []
+
   -- a bound is the one that is marked, or loose
   abbrev pub MarkedOr : Option B → B → Type 0
   MarkedOr (Some b) x = x ≡ b
@@ -56,11 +67,12 @@ module _ {B : Type 0} (n : ℕ) (has : B → Points) where
     pub behind : (p : ℕ) → fixed_places_lem s (length t) ≤ p → (d : B) → slice_index_or t' p d ≡ slice_index_or t p d
 
 module _ {B : Type 0} (n : ℕ) (has : B → Points) (form : B → List ℕ) where
-  -- the tables hold what the first records of the file say, rs, each of which can be entered after those before it
+  -- the tables hold and count what the first records of the file say, rs, each of which can be entered after those before it
   pub record Read (bytes : List ℕ) (s : Sizes) (t : Tables B) (rs : List (Record B)) (t' : Tables B) : Type 0 where
     pub first : First n has form s (rooms_of t) (rows bytes) rs
     pub held : Held rs t t'
-    pub fixed : Described n has s (pick (mark_in s) rs) t.fixed.now t'.fixed.now
+    pub fixed : Described n has s (pick (mark_in s) rs) t.fixed.table.now t'.fixed.table.now
+    pub counts : counts_of t' ≡ counts_after s (rooms_of t) rs
 
   module _ (bytes : List ℕ) (t : Tables B) where
     -- the file has its frame and these sizes, which are within their limits
@@ -88,7 +100,6 @@ module _ {B : Type 0} (n : ℕ) (has : B → Points) (form : B → List ℕ) whe
         × (x.quorum ≡ byte (slice_index_or (rows bytes) k []) 6)
         × (length rs ≡ records bytes)
         × Read bytes x.sizes t rs t'
-        × (x.counts ≡ counts_after x.sizes (rooms_of t) rs)
         × (x.draft.count ≡ length (pick fact_in rs))
     ReadDoes (Err (Bytes (Frame fault))) t' = Framed bytes (Err fault) × Kept t t'
     ReadDoes (Err (Bytes (BytesRecord at))) t' = Stops at (λ s. NotARecord n has form (rows bytes) s t at NoRecord) t'

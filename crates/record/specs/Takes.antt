@@ -7,11 +7,10 @@ use Rattle.record_line.specs.declared.LineFault.{LineFault}
 use Rattle.record_line.specs.declared.LineFault.TheVariants.{Bytes as NoRecord, Scale as NoBound}
 use Rattle.record_line.specs.declared.Record.{Record}
 use Rattle.record_line.specs.Lines.{Parsed}
-use Rattle.record_entry.specs.declared.Counts.{Counts}
 use Rattle.record_entry.specs.declared.EntryFault.{EntryFault}
 use Rattle.record_entry.specs.declared.EntryFault.TheVariants.{House as NoPlace, Plan as NotFiled}
 use Rattle.record_entry.specs.declared.Tables.{Tables}
-use Rattle.record_entry.specs.Entries.{Rooms, rooms_of, Kept, Fits, Unfit, EnterDoes}
+use Rattle.record_entry.specs.Entries.{Rooms, rooms_of, counts_of, Kept, Fits, Unfit, EnterDoes}
 use Rattle.record_entry.specs.Parts.{fact_in, mark_in}
 use Rattle.record.specs.declared.faults.BytesFault.TheVariants.{Frame, Record as BytesRecord}
 use Rattle.record.specs.declared.faults.Fault.{Fault}
@@ -25,6 +24,11 @@ module _ {B : Type 0} (n : ℕ) (has : B → Points) where
   -- the first so many bounds are loose
   abbrev pub LooseBelow : ℕ → List B → Type 0
   LooseBelow places t = (p : ℕ) → p < places → (d : B) → Loose n (has (slice_index_or t p d))
+
+  -- no record has been taken: no table has one, and the places of the fixed bounds are loose
+  pub record Fresh (s : Sizes) (t : Tables B) : Type 0 where
+    pub loose : LooseBelow (fixed_places_lem s (length t.fixed.table.now)) t.fixed.table.now
+    pub counts : counts_of t ≡ counts_after {B = B} s (rooms_of t) []
 
   -- no bound but a loose one is marked
   abbrev pub MarkedLoose : Option B → Type 0
@@ -45,11 +49,11 @@ module _ {B : Type 0} (n : ℕ) (has : B → Points) where
 
 module _ {B : Type 0} (n : ℕ) (has : B → Points) (form : B → List ℕ) where
   -- a record is read and then entered; a refusal leaves everything
-  abbrev pub TakeDoes : List ℕ → Sizes → Tables B → Counts → Draft → Result (Unit {0}) RecordFault → Tables B → Counts → Draft → Type 0
-  TakeDoes line s t c d (Ok u) t' c' d' = (r : Record B) × Parsed form line (Ok r) × EnterDoes n has s r t c d (Ok u) t' c' d'
-  TakeDoes line s t c d (Err (Line fault)) t' c' d' = Parsed form line (Err fault) × Kept t t' × (c' ≡ c) × (d' ≡ d)
-  TakeDoes line s t c d (Err (Entry fault)) t' c' d' =
-      (r : Record B) × Parsed form line (Ok r) × EnterDoes n has s r t c d (Err fault) t' c' d'
+  abbrev pub TakeDoes : List ℕ → Sizes → Tables B → Draft → Result (Unit {0}) RecordFault → Tables B → Draft → Type 0
+  TakeDoes line s t d (Ok u) t' d' = (r : Record B) × Parsed form line (Ok r) × EnterDoes n has s r t d (Ok u) t' d'
+  TakeDoes line s t d (Err (Line fault)) t' d' = Parsed form line (Err fault) × Kept t t' × (d' ≡ d)
+  TakeDoes line s t d (Err (Entry fault)) t' d' =
+      (r : Record B) × Parsed form line (Ok r) × EnterDoes n has s r t d (Err fault) t' d'
 
   -- rs are the first records of the file, and each can be entered after those before it
   abbrev pub First : Sizes → Rooms → List (List ℕ) → List (Record B) → Type 0
@@ -60,7 +64,8 @@ module _ {B : Type 0} (n : ℕ) (has : B → Points) (form : B → List ℕ) whe
   pub record Taken (lines : List (List ℕ)) (s : Sizes) (t : Tables B) (rs : List (Record B)) (t' : Tables B) : Type 0 where
     pub first : First s (rooms_of t) lines rs
     pub held : Held rs t t'
-    pub fixed : Laid (pick (mark_in s) rs) (fixed_places_lem s (length t.fixed.now)) t.fixed.now t'.fixed.now
+    pub fixed : Laid (pick (mark_in s) rs) (fixed_places_lem s (length t.fixed.table.now)) t.fixed.table.now t'.fixed.table.now
+    pub counts : counts_of t' ≡ counts_after s (rooms_of t) rs
 
   module _ (lines : List (List ℕ)) (s : Sizes) (t : Tables B) where
     -- the records before this one have been taken, and this one is refused so
@@ -76,13 +81,9 @@ module _ {B : Type 0} (n : ℕ) (has : B → Points) (form : B → List ℕ) whe
     NotEntered at fault rs = (r : Record B) × Parsed form (slice_index_or lines at []) (Ok r) × Denied n has s (rooms_of t) rs r fault
 
     -- every record is taken, or all before the first that is refused
-    abbrev pub TakeAllDoes : Result (Draft × Counts) Fault → Tables B → Type 0
-    TakeAllDoes (Ok x) t' =
-        (rs : List (Record B))
-        × (length rs ≡ length lines)
-        × Taken lines s t rs t'
-        × (x.1 ≡ counts_after s (rooms_of t) rs)
-        × (x.0.count ≡ length (pick fact_in rs))
+    abbrev pub TakeAllDoes : Result Draft Fault → Tables B → Type 0
+    TakeAllDoes (Ok draft) t' =
+        (rs : List (Record B)) × (length rs ≡ length lines) × Taken lines s t rs t' × (draft.count ≡ length (pick fact_in rs))
     TakeAllDoes (Err (Bytes (Frame _))) t' = ⊥
     TakeAllDoes (Err (Bytes (BytesRecord at))) t' = Stopped at (NotARecord at NoRecord) t'
     TakeAllDoes (Err (Scale at cause)) t' = Stopped at (NotARecord at (NoBound cause)) t'

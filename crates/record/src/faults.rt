@@ -1,5 +1,6 @@
 // What `read` can refuse. A fault names the layer that it comes from.
-ghost use Rattle.std.specs.Prelude.{◌≡◌};
+ghost use Rattle.std.specs.Prelude.{◌≡◌, Some};
+ghost use Rattle.plan.specs.Texts.{refusal_text};
 ghost use Rattle.record.specs.Faults.{number_of, place_of, placed};
 ghost use Rattle.record.specs.declared.faults.BytesFault.TheVariants.{Frame as FrameCase};
 ghost use Rattle.record.specs.declared.faults.Fault.TheVariants.{Bytes as BytesCase, House as HouseCase};
@@ -12,9 +13,11 @@ use plan::Refusal;
 use record_entry::EntryFault;
 use record_line::LineFault;
 use scale::NotABound;
+use std::error::Error;
+use std::fmt;
 
 // The fault of a file, with the number of the record that has it.
-#[derive(Clone, Copy)]
+#[derive(Clone, Copy, PartialEq, Eq, Debug)]
 pub enum Fault {
     // The bytes are no record file.
     Bytes(BytesFault),
@@ -26,7 +29,7 @@ pub enum Fault {
     Plan { at: usize, cause: Refusal },
 }
 
-#[derive(Clone, Copy)]
+#[derive(Clone, Copy, PartialEq, Eq, Debug)]
 pub enum BytesFault {
     // The file as a whole.
     Frame(FrameFault),
@@ -34,7 +37,7 @@ pub enum BytesFault {
     Record { at: usize },
 }
 
-#[derive(Clone, Copy)]
+#[derive(Clone, Copy, PartialEq, Eq, Debug)]
 pub enum HouseFault {
     // A size outside its limits.
     Sizes(Defect),
@@ -72,6 +75,19 @@ impl Fault {
     }
 }
 
+// The text of a fault: its number and its place.
+impl fmt::Display for Fault {
+    ghost output = { λ f. Some (refusal_text (number_of f) (place_of f)) };
+
+    fn fmt<W: fmt::Write>(&self, f: &mut fmt::Formatter<W>) -> fmt::Result {
+        let number = self.number();
+        let place = self.place();
+        write!(f, "refused {number} {place}")
+    }
+}
+
+impl Error for Fault {}
+
 impl From<FrameFault> for Fault {
     ghost from_gives = { λ x r. r ≡ BytesCase (FrameCase x) };
 
@@ -89,7 +105,7 @@ impl From<Defect> for Fault {
 }
 
 // The fault of a record, whichever it is.
-#[derive(Clone, Copy)]
+#[derive(Clone, Copy, PartialEq, Eq, Debug)]
 pub enum RecordFault {
     Line(LineFault),
     Entry(EntryFault),

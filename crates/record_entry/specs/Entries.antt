@@ -1,5 +1,5 @@
 -- What entering a record does.
-use Rattle.std.specs.Prelude.{◌≡◌, ℕ, ◌+◌, ◌<◌, ◌≤◌, List, length, Some, None, Ok, Err, Option, Result, slice_index_or, slice_set}
+use Rattle.std.specs.Prelude.{◌≡◌, ℕ, ◌+◌, ◌<◌, List, length, Some, None, Ok, Err, Option, Result, slice_index_or, slice_set}
 use Rattle.points.specs.Points.{Points, Loose}
 use Rattle.house.specs.declared.tables.Sizes.{Sizes}
 use Rattle.house.specs.declared.tables.Fact.{Fact}
@@ -10,7 +10,6 @@ use Rattle.plan.specs.Orders.{RefusedBy, file_checks}
 use Rattle.record_line.specs.declared.Record.{Record}
 use Rattle.record_line.specs.declared.Record.TheVariants.{Sizes as S, Edge as E, Fixed as X, Test as T, Condition as C, Constraint as K, Rule as R, Step as Q, Fact as F}
 use Rattle.record_entry.specs.declared.Tables.{Tables}
-use Rattle.record_entry.specs.declared.Counts.{Counts}
 use Rattle.record_entry.specs.declared.EntryFault.{EntryFault}
 use Rattle.record_entry.specs.declared.EntryFault.TheVariants.{House, Plan}
 use Rattle.record_entry.specs.Parts.{edge_in, test_in, condition_in, constraint_in, rule_in, step_in, fact_in, mark_in, Mark, fixed_place}
@@ -24,12 +23,6 @@ Grown (Some x) t n t' n' = (n < length t) × (t' ≡ slice_set t n x) × (n' ≡
 abbrev pub Marked : {B : Type 0} → Option (Mark B) → List B → List B → Type 0
 Marked None t t' = t' ≡ t
 Marked (Some m) t t' = t' ≡ slice_set t m.place m.bound
-
--- an item stands behind the counted ones; a full table stays as it is
-abbrev pub PutDoes : {A : Type 0} → A → List A → ℕ → Result (Unit {0}) EntryFault → List A → ℕ → Type 0
-PutDoes x t n (Ok _) t' n' = (n < length t) × (t' ≡ slice_set t n x) × (n' ≡ n + 1)
-PutDoes x t n (Err House) t' n' = (length t ≤ n) × (t' ≡ t) × (n' ≡ n)
-PutDoes x t n (Err (Plan _)) t' n' = ⊥
 
 -- a place of the fixed bounds can take a bound: it is in the house, among so many, and loose
 abbrev pub Open : Sizes → ℕ → ℕ → ℕ → (ℕ → Type 0) → Type 0
@@ -58,41 +51,63 @@ pub record Rooms : Type 0 where
   pub steps : ℕ
   pub facts : ℕ
 
+-- how many records each table has; the plan counts the facts
+pub record Counts : Type 0 where
+  pub edges : ℕ
+  pub fixed : ℕ
+  pub tests : ℕ
+  pub conditions : ℕ
+  pub constraints : ℕ
+  pub rules : ℕ
+  pub steps : ℕ
+
 module _ {B : Type 0} where
   abbrev pub rooms_of : Tables B → Rooms
   rooms_of t = record {
-    edges = length t.edges.now;
-    fixed = length t.fixed.now;
-    tests = length t.tests.now;
-    conditions = length t.conditions.now;
-    constraints = length t.constraints.now;
-    rules = length t.rules.now;
-    steps = length t.steps.now;
+    edges = length t.edges.table.now;
+    fixed = length t.fixed.table.now;
+    tests = length t.tests.table.now;
+    conditions = length t.conditions.table.now;
+    constraints = length t.constraints.table.now;
+    rules = length t.rules.table.now;
+    steps = length t.steps.table.now;
     facts = length t.facts.now;
+  }
+
+  abbrev pub counts_of : Tables B → Counts
+  counts_of t = record {
+    edges = t.edges.count;
+    fixed = t.fixed.count;
+    tests = t.tests.count;
+    conditions = t.conditions.count;
+    constraints = t.constraints.count;
+    rules = t.rules.count;
+    steps = t.steps.count;
   }
 
   -- the same tables are lent
   abbrev pub Lent : Tables B → Tables B → Type 0
   Lent t t' =
-      (t'.edges.ghost_name ≡ t.edges.ghost_name)
-      × (t'.fixed.ghost_name ≡ t.fixed.ghost_name)
-      × (t'.tests.ghost_name ≡ t.tests.ghost_name)
-      × (t'.conditions.ghost_name ≡ t.conditions.ghost_name)
-      × (t'.constraints.ghost_name ≡ t.constraints.ghost_name)
-      × (t'.rules.ghost_name ≡ t.rules.ghost_name)
-      × (t'.steps.ghost_name ≡ t.steps.ghost_name)
+      (t'.edges.table.ghost_name ≡ t.edges.table.ghost_name)
+      × (t'.fixed.table.ghost_name ≡ t.fixed.table.ghost_name)
+      × (t'.tests.table.ghost_name ≡ t.tests.table.ghost_name)
+      × (t'.conditions.table.ghost_name ≡ t.conditions.table.ghost_name)
+      × (t'.constraints.table.ghost_name ≡ t.constraints.table.ghost_name)
+      × (t'.rules.table.ghost_name ≡ t.rules.table.ghost_name)
+      × (t'.steps.table.ghost_name ≡ t.steps.table.ghost_name)
       × (t'.facts.ghost_name ≡ t.facts.ghost_name)
 
-  -- every table holds what it held
+  -- every table holds what it held, and has as many records
   pub record Kept (t t' : Tables B) : Type 0 where
-    pub edges : t'.edges.now ≡ t.edges.now
-    pub fixed : t'.fixed.now ≡ t.fixed.now
-    pub tests : t'.tests.now ≡ t.tests.now
-    pub conditions : t'.conditions.now ≡ t.conditions.now
-    pub constraints : t'.constraints.now ≡ t.constraints.now
-    pub rules : t'.rules.now ≡ t.rules.now
-    pub steps : t'.steps.now ≡ t.steps.now
+    pub edges : t'.edges.table.now ≡ t.edges.table.now
+    pub fixed : t'.fixed.table.now ≡ t.fixed.table.now
+    pub tests : t'.tests.table.now ≡ t.tests.table.now
+    pub conditions : t'.conditions.table.now ≡ t.conditions.table.now
+    pub constraints : t'.constraints.table.now ≡ t.constraints.table.now
+    pub rules : t'.rules.table.now ≡ t.rules.table.now
+    pub steps : t'.steps.table.now ≡ t.steps.table.now
     pub facts : t'.facts.now ≡ t.facts.now
+    pub counts : counts_of t' ≡ counts_of t
 
   -- a record can be entered: its table has space behind the records that it counts, a fixed bound has a place that is
   -- loose, and the plan files a fact behind so many
@@ -113,21 +128,21 @@ module _ {B : Type 0} where
   Unfit s c filed room loose r (Plan refusal) = (f : Fact B) × (fact_in r ≡ Some f) × RefusedBy (file_checks s f filed room.facts) refusal
 
   -- each table takes its part of the record, and only that
-  pub record Entered (s : Sizes) (r : Record B) (t : Tables B) (c : Counts) (filed : ℕ) (t' : Tables B) (c' : Counts) (filed' : ℕ) : Type 0 where
-    pub edges : Grown (edge_in r) t.edges.now c.edges t'.edges.now c'.edges
-    pub fixed : Marked (mark_in s r) t.fixed.now t'.fixed.now
-    pub count_of_fixed : c'.fixed ≡ c.fixed
-    pub tests : Grown (test_in r) t.tests.now c.tests t'.tests.now c'.tests
-    pub conditions : Grown (condition_in r) t.conditions.now c.conditions t'.conditions.now c'.conditions
-    pub constraints : Grown (constraint_in r) t.constraints.now c.constraints t'.constraints.now c'.constraints
-    pub rules : Grown (rule_in r) t.rules.now c.rules t'.rules.now c'.rules
-    pub steps : Grown (step_in r) t.steps.now c.steps t'.steps.now c'.steps
+  pub record Entered (s : Sizes) (r : Record B) (t : Tables B) (filed : ℕ) (t' : Tables B) (filed' : ℕ) : Type 0 where
+    pub edges : Grown (edge_in r) t.edges.table.now t.edges.count t'.edges.table.now t'.edges.count
+    pub fixed : Marked (mark_in s r) t.fixed.table.now t'.fixed.table.now
+    pub count_of_fixed : t'.fixed.count ≡ t.fixed.count
+    pub tests : Grown (test_in r) t.tests.table.now t.tests.count t'.tests.table.now t'.tests.count
+    pub conditions : Grown (condition_in r) t.conditions.table.now t.conditions.count t'.conditions.table.now t'.conditions.count
+    pub constraints : Grown (constraint_in r) t.constraints.table.now t.constraints.count t'.constraints.table.now t'.constraints.count
+    pub rules : Grown (rule_in r) t.rules.table.now t.rules.count t'.rules.table.now t'.rules.count
+    pub steps : Grown (step_in r) t.steps.table.now t.steps.count t'.steps.table.now t'.steps.count
     pub facts : Grown (fact_in r) t.facts.now filed t'.facts.now filed'
 
 module _ {B : Type 0} (n : ℕ) (has : B → Points) where
   -- a record is entered exactly when it can be, and where not everything stays
-  abbrev pub EnterDoes : Sizes → Record B → Tables B → Counts → Draft → Result (Unit {0}) EntryFault → Tables B → Counts → Draft → Type 0
-  EnterDoes s r t c d (Ok _) t' c' d' =
-      Fits s c d.count (rooms_of t) (LooseAt n has t.fixed.now) r × Entered s r t c d.count t' c' d'.count
-  EnterDoes s r t c d (Err fault) t' c' d' =
-      Unfit s c d.count (rooms_of t) (LooseAt n has t.fixed.now) r fault × Kept t t' × (c' ≡ c) × (d' ≡ d)
+  abbrev pub EnterDoes : Sizes → Record B → Tables B → Draft → Result (Unit {0}) EntryFault → Tables B → Draft → Type 0
+  EnterDoes s r t d (Ok _) t' d' =
+      Fits s (counts_of t) d.count (rooms_of t) (LooseAt n has t.fixed.table.now) r × Entered s r t d.count t' d'.count
+  EnterDoes s r t d (Err fault) t' d' =
+      Unfit s (counts_of t) d.count (rooms_of t) (LooseAt n has t.fixed.table.now) r fault × Kept t t' × (d' ≡ d)

@@ -1,6 +1,7 @@
 -- One record: sixteen bytes, a letter first and then the bytes that the letter names. Numbers have their high byte
 -- first, and a byte without a name is 0.
-use Rattle.std.specs.Prelude.{◌≡◌, ℕ, ◌+◌, ◌*◌, ◌<◌, ◌≤◌, cond, ◌⊎◌, List, [], ◌∷◌, Ok, Err, Result, ◌==◌, ◌≢◌, slice_index}
+use Rattle.std.specs.Prelude.{◌≡◌, ℕ, ◌+◌, ◌*◌, ◌<◌, ◌≤◌, cond, if◌then◌else◌, ◌⊎◌, List, [], ◌∷◌, Some, None, Option, Ok, Err, Result, ◌==◌, ◌≢◌, slice_index}
+use Rattle.house.specs.Kinds.{kind_of}
 use Rattle.record_line.specs.declared.LineFault.{LineFault}
 use Rattle.record_line.specs.declared.LineFault.TheVariants.{Bytes, Scale}
 use Rattle.record_line.specs.declared.Record.{Record}
@@ -20,11 +21,6 @@ four line = byte line 4 ∷ byte line 5 ∷ byte line 6 ∷ byte line 7 ∷ []
 -- the bytes from this one on are 0
 abbrev pub Clear : List ℕ → ℕ → Type 0
 Clear line from = (k : ℕ) → from ≤ k → k < 16 → byte line k ≡ 0
-
-abbrev pub Cleared : List ℕ → ℕ → Result (Unit {0}) LineFault → Type 0
-Cleared line from (Ok _) = Clear line from
-Cleared line from (Err Bytes) = Clear line from → ⊥
-Cleared line from (Err (Scale _)) = ⊥
 
 -- the first byte behind those that a letter names; 0 where it is no letter of a record
 abbrev pub named_end : ℕ → ℕ
@@ -51,6 +47,10 @@ pub record Formed (line : List ℕ) : Type 0 where
   pub between : byte line 0 ≡ 84 → (byte line 2 ≡ 0) × (byte line 3 ≡ 0)
   pub quorum : byte line 0 ≡ 83 → byte line 6 ≤ 200
 
+-- a byte of a rule in the place of a condition: 255 is none, and any other number names one
+abbrev pub named_condition : ℕ → Option ℕ
+named_condition n = if n == 255 then None else Some n
+
 module _ {S : Type 0} (form : S → List ℕ) where
   -- four bytes are read as a bound with that form, and refused where no bound has it
   abbrev pub Bounded : List ℕ → Result S LineFault → Type 0
@@ -72,16 +72,16 @@ module _ {S : Type 0} (form : S → List ℕ) where
       (byte line 0 ≡ 88) × (component ≡ word line 1) × (label ≡ byte line 3) × (form bound ≡ four line)
   Says line (Test t) = (byte line 0 ≡ 84) × (t.label ≡ byte line 1) × (form t.bound ≡ four line)
   Says line (Condition c) =
-      (byte line 0 ≡ 67) × (c.kind ≡ byte line 1) × (c.a ≡ byte line 2) × (c.b ≡ byte line 3)
+      (byte line 0 ≡ 67) × (c.kind ≡ kind_of (byte line 1)) × (c.a ≡ byte line 2) × (c.b ≡ byte line 3)
   Says line (Constraint k) =
       (byte line 0 ≡ 75) × (k.head ≡ byte line 1) × (k.body.first ≡ byte line 2) × (k.body.count ≡ byte line 3)
   Says line (Rule r) =
       (byte line 0 ≡ 82)
       × (r.target ≡ byte line 1)
       × (r.delay ≡ byte line 2)
-      × (r.onto ≡ byte line 3)
-      × (r.along ≡ byte line 4)
-      × (r.source ≡ byte line 5)
+      × (r.onto ≡ named_condition (byte line 3))
+      × (r.along ≡ named_condition (byte line 4))
+      × (r.source ≡ named_condition (byte line 5))
       × (r.body.first ≡ byte line 6)
       × (r.body.count ≡ byte line 7)
       × (r.formula ≡ byte line 8)

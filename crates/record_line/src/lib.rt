@@ -4,15 +4,17 @@
 #![tactic(auto)]
 
 ghost use Rattle.std.specs.Prelude.{◌≡◌};
-ghost use Rattle.record_line.specs.Lines.{Cleared, Bounded, Parsed};
+ghost use Rattle.record_line.specs.Lines.{Bounded, Parsed};
 ghost use Rattle.record_line.specs.declared.LineFault.TheVariants.{Scale as ScaleCase};
 
 use book::Stair;
-use house::{Body, Condition, Constraint, Edge, Fact, Rule, Test};
+use fields::{condition, constraint, edge, fact, rule, step, test};
+use house::{Condition, Constraint, Edge, Fact, Rule, Test};
 use scale::{NotABound, Recorded};
+use shape::has_shape;
 
-// The highest quorum.
-const MOST: u8 = 200;
+mod fields;
+mod shape;
 
 // What a record says.
 #[derive(Drop)]
@@ -48,7 +50,7 @@ pub enum Record<S> {
 }
 
 // Why sixteen bytes are no record.
-#[derive(Clone, Copy)]
+#[derive(Clone, Copy, PartialEq, Eq, Debug)]
 pub enum LineFault {
     // An unknown letter, a byte without a name that is not 0, or a quorum above 200.
     Bytes,
@@ -64,24 +66,12 @@ impl From<NotABound> for LineFault {
     }
 }
 
-// Refuses a byte from `from` on that is not 0.
-fn clear(line: &[u8; 16], from: usize) -> Result<(), LineFault>
-    ensures { Cleared line.now from result }
-{
-    for k in from..16 {
-        if line[k] != 0 {
-            return Err(LineFault::Bytes);
-        }
-    }
-    Ok(())
-}
-
 // The bound in the bytes 4 to 7.
 fn bound<S: Recorded>(line: &[u8; 16]) -> Result<S, LineFault>
     ensures { Bounded S.Recorded.form line.now result }
 {
-    let [_, _, _, _, b0, b1, b2, b3, ..] = line;
-    Ok(S::from_bytes([*b0, *b1, *b2, *b3])?)
+    let [_, _, _, _, b0, b1, b2, b3, ..] = *line;
+    Ok(S::from_bytes([b0, b1, b2, b3])?)
 }
 
 // The record that these bytes are. Bytes that have not the shape of a record are refused before four bytes that are no
@@ -89,103 +79,29 @@ fn bound<S: Recorded>(line: &[u8; 16]) -> Result<S, LineFault>
 pub fn parse<S: Recorded>(line: &[u8; 16]) -> Result<Record<S>, LineFault>
     ensures { Parsed S.Recorded.form line.now result }
 {
-    match line {
-        [b'S', n0, n1, moving, fixed, last, quorum, ..] => {
-            clear(line, 7)?;
-            if *quorum > MOST {
-                return Err(LineFault::Bytes);
-            }
-            Ok(Record::Sizes {
-                nodes: u16::from_be_bytes([*n0, *n1]),
-                moving: *moving,
-                fixed: *fixed,
-                last: *last,
-                quorum: *quorum,
-            })
-        }
-        [b'E', f0, f1, t0, t1, ..] => {
-            clear(line, 5)?;
-            let from = u16::from_be_bytes([*f0, *f1]);
-            let to = u16::from_be_bytes([*t0, *t1]);
-            Ok(Record::Edge(Edge { from, to }))
-        }
-        [b'X', c0, c1, label, _, _, _, _, ..] => {
-            clear(line, 8)?;
-            Ok(Record::Fixed {
-                component: u16::from_be_bytes([*c0, *c1]),
-                label: *label,
-                bound: bound(line)?,
-            })
-        }
-        [b'T', label, 0, 0, _, _, _, _, ..] => {
-            clear(line, 8)?;
-            Ok(Record::Test(Test {
-                label: *label,
-                bound: bound(line)?,
-            }))
-        }
-        [b'C', kind, a, b, ..] => {
-            clear(line, 4)?;
-            Ok(Record::Condition(Condition {
-                kind: *kind,
-                a: *a,
-                b: *b,
-            }))
-        }
-        [b'K', head, first, count, ..] => {
-            clear(line, 4)?;
-            Ok(Record::Constraint(Constraint {
-                head: *head,
-                body: Body {
-                    first: *first,
-                    count: *count,
-                },
-            }))
-        }
-        [
-            b'R',
-            target,
-            delay,
-            onto,
-            along,
-            source,
-            first,
-            count,
-            formula,
-            ..
-        ] => {
-            clear(line, 9)?;
-            Ok(Record::Rule(Rule {
-                target: *target,
-                delay: *delay,
-                onto: *onto,
-                along: *along,
-                source: *source,
-                body: Body {
-                    first: *first,
-                    count: *count,
-                },
-                formula: *formula,
-            }))
-        }
-        [b'Q', formula, s0, s1, _, _, _, _, ..] => {
-            clear(line, 8)?;
-            Ok(Record::Step(Stair {
-                formula: *formula,
-                share: u16::from_be_bytes([*s0, *s1]),
-                bound: bound(line)?,
-            }))
-        }
-        [b'F', c0, c1, label, _, _, _, _, from, to, ..] => {
-            clear(line, 10)?;
-            Ok(Record::Fact(Fact {
-                component: u16::from_be_bytes([*c0, *c1]),
-                label: *label,
-                bound: bound(line)?,
-                from: *from,
-                to: *to,
-            }))
-        }
+    if !has_shape(line) {
+        return Err(LineFault::Bytes);
+    }
+    match *line {
+        [b'S', n0, n1, moving, fixed, last, quorum, ..] => Ok(Record::Sizes {
+            nodes: u16::from_be_bytes([n0, n1]),
+            moving,
+            fixed,
+            last,
+            quorum,
+        }),
+        [b'E', ..] => Ok(Record::Edge(edge(line))),
+        [b'X', c0, c1, label, ..] => Ok(Record::Fixed {
+            component: u16::from_be_bytes([c0, c1]),
+            label,
+            bound: bound(line)?,
+        }),
+        [b'T', ..] => Ok(Record::Test(test(line, bound(line)?))),
+        [b'C', ..] => Ok(Record::Condition(condition(line))),
+        [b'K', ..] => Ok(Record::Constraint(constraint(line))),
+        [b'R', ..] => Ok(Record::Rule(rule(line))),
+        [b'Q', ..] => Ok(Record::Step(step(line, bound(line)?))),
+        [b'F', ..] => Ok(Record::Fact(fact(line, bound(line)?))),
         _ => Err(LineFault::Bytes),
     }
 }

@@ -1,5 +1,6 @@
 -- The text that a program prints for a record file.
-use Rattle.std.specs.Prelude.{◌≡◌, ℕ, min, List, ◌++◌, length, take, Ok, Err, codes, decimal, Result}
+use Rattle.std.specs.Prelude.{◌≡◌, ℕ, min, List, ◌++◌, length, take, Ok, Err, codes, Option, Result}
+use Rattle.std.specs.Io.KnownBytes.{Consumes, IsAtEnd, Appends}
 use Rattle.points.specs.Points.{Points}
 use Rattle.book.specs.Steps.{formulas_of, share_reached, said}
 use Rattle.book.specs.Quorums.{quorate}
@@ -13,21 +14,22 @@ use Rattle.plan.specs.declared.outcomes.Outcome.{Outcome}
 use Rattle.plan.specs.declared.outcomes.Outcome.TheVariants.{Settled, Contradiction, Refused}
 use Rattle.plan.specs.Refusals as refusals
 use Rattle.plan.specs.Calls.{SettleDoes}
+use Rattle.plan.specs.Texts.{refusal_text, clash_text}
 use Rattle.listing.specs.Lines.{listing_of}
 use Rattle.record_entry.specs.declared.Tables.{Tables}
 use Rattle.record.specs.declared.faults.Fault.{Fault}
 use Rattle.record.specs.declared.reading.Content.{Content}
 use Rattle.record.specs.Faults as faults
 use Rattle.record.specs.Reads.{ReadDoes}
+use Rattle.workspace.specs.Spaces.{Housed}
 
 -- the line of a refusal: its number and its place
 abbrev pub refused_line : ℕ → ℕ → List ℕ
-refused_line number place = codes "refused " ++ (decimal number ++ (codes " " ++ (decimal place ++ codes "\n")))
+refused_line number place = refusal_text number place ++ codes "\n"
 
 -- the line of a contradiction: the first void cell
 abbrev pub clash_line : ℕ → ℕ → ℕ → List ℕ
-clash_line hour component label =
-    codes "contradiction " ++ (decimal hour ++ (codes " " ++ (decimal component ++ (codes " " ++ (decimal label ++ codes "\n")))))
+clash_line hour component label = clash_text hour component label ++ codes "\n"
 
 -- how many cells the programs hold: those of the house, and 8,192 of a larger one, which is then refused
 abbrev pub room : Sizes → ℕ
@@ -37,7 +39,7 @@ module _ {S : Type 0} (n : ℕ) (has : S → Points) (form : S → List ℕ) whe
   -- the text for what settling came to, with the cells that it left
   abbrev pub outcome_text : Sizes → Outcome → List S → List ℕ
   outcome_text s (Settled plan) cells = listing_of n has form s cells
-  outcome_text s (Contradiction at draft) cells = clash_line at.hour at.component at.label
+  outcome_text s (Contradiction at draft) cells = clash_line at.cell.hour at.cell.component at.cell.label
   outcome_text s (Refused refusal draft) cells = refused_line (refusals.number_of refusal) (refusals.place_of refusal)
 
   -- the text for what settling a draft comes to
@@ -45,19 +47,9 @@ module _ {S : Type 0} (n : ℕ) (has : S → Points) (form : S → List ℕ) whe
   Texted h formulas says draft table cells text =
       (cells' : List S) × (o : Outcome) × SettleDoes n has h formulas says draft table cells o cells' × (text ≡ outcome_text h.sizes o cells')
 
-  -- the house that a file describes: its sizes, and of each table the records that were read
-  pub record Housed (x : Content) (t : Tables S) (h : House S) : Type 0 where
-    pub sizes : h.sizes ≡ x.sizes
-    pub edges : h.edges.now ≡ take x.counts.edges t.edges.now
-    pub fixed : h.fixed.now ≡ take x.counts.fixed t.fixed.now
-    pub tests : h.tests.now ≡ take x.counts.tests t.tests.now
-    pub conditions : h.conditions.now ≡ take x.counts.conditions t.conditions.now
-    pub constraints : h.constraints.now ≡ take x.counts.constraints t.constraints.now
-    pub rules : h.rules.now ≡ take x.counts.rules t.rules.now
-
   -- the steps that were read, and what their stairs say under the file's quorum
   abbrev pub steps_read : Content → Tables S → List (Stair S)
-  steps_read x t = take x.counts.steps t.steps.now
+  steps_read x t = take t.steps.count t.steps.table.now
 
   abbrev pub stairs_say : List (Stair S) → ℕ → ℕ → ℕ → ℕ → Points
   stairs_say steps quorum = quorate n quorum (said (λ t. t.formula) (λ t. share_reached t.share) (λ t. has t.bound) n steps)
@@ -65,7 +57,7 @@ module _ {S : Type 0} (n : ℕ) (has : S → Points) (form : S → List ℕ) whe
   -- the text of a file that is read: what its draft comes to, in the house and with the stairs that it describes
   abbrev pub Concluded : Content → Tables S → List ℕ → Type 0
   Concluded x t text =
-      (h : House S) × Housed x t h
+      (h : House S) × Housed x.sizes t h
       × ((cells : List S) × (length cells ≡ room x.sizes)
       × Texted h (formulas_of (λ s. s.formula) (steps_read x t)) (stairs_say (steps_read x t) x.quorum) x.draft t.facts.now cells text)
 
@@ -81,15 +73,21 @@ module _ {S : Type 0} (n : ℕ) (has : S → Points) (form : S → List ℕ) whe
 -- what the programs have space for: 600 edges, all fixed bounds of the largest house, 64 tests, conditions, constraints and
 -- rules, 256 steps and 1,000 facts
 pub record Rooms {S : Type 0} (t : Tables S) : Type 0 where
-  pub edges : length t.edges.now ≡ 600
-  pub fixed : length t.fixed.now ≡ 12800
-  pub tests : length t.tests.now ≡ 64
-  pub conditions : length t.conditions.now ≡ 64
-  pub constraints : length t.constraints.now ≡ 64
-  pub rules : length t.rules.now ≡ 64
-  pub steps : length t.steps.now ≡ 256
+  pub edges : length t.edges.table.now ≡ 600
+  pub fixed : length t.fixed.table.now ≡ 12800
+  pub tests : length t.tests.table.now ≡ 64
+  pub conditions : length t.conditions.table.now ≡ 64
+  pub constraints : length t.constraints.table.now ≡ 64
+  pub rules : length t.rules.table.now ≡ 64
+  pub steps : length t.steps.table.now ≡ 256
   pub facts : length t.facts.now ≡ 1000
 
 -- the text that a program prints for a file
 abbrev pub Reported : {S : Type 0} → ℕ → (S → Points) → (S → List ℕ) → List ℕ → List ℕ → Type 0
 Reported {S} n has form bytes text = (t : Tables S) × Rooms t × Told n has form bytes t text
+
+-- a file was read to its end, and its text was written: what is known of the bytes that are left to read, and of those that
+-- are written, before and afterwards
+abbrev pub Ran : {S : Type 0} → ℕ → (S → Points) → (S → List ℕ) → Option (List ℕ) → Option (List ℕ) → Option (List ℕ) → Option (List ℕ) → Type 0
+Ran n has form given left old new =
+    (bytes : List ℕ) × Consumes given left bytes × IsAtEnd left × ((text : List ℕ) × Reported n has form bytes text × Appends old new text)

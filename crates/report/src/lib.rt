@@ -1,56 +1,23 @@
 // From the bytes of a record file to the text that the programs print.
 #![tactic(auto)]
 
-ghost use Rattle.std.specs.Prelude.{◌≡◌, length, take, IfOk, vec_len, string_bytes};
-ghost use Rattle.report.specs.Text.{refused_line, clash_line, Texted, Concluded, Told, Reported};
+ghost use Rattle.std.specs.Prelude.{◌≡◌, IfOk, OnOk, string_bytes};
+ghost use Rattle.report.specs.Text.{Texted, Concluded, Told, Reported, Ran};
 
-use anyhow::anyhow;
-use book::{Book, Quorum, Stair, Stairs};
-use house::{Body, Condition, Constraint, Edge, Fact, House, Rule, Test};
+use anyhow::bail;
+use book::{Book, Quorum, Stairs};
+use house::{Fact, House};
 use listing::listing;
-use plan::{Clash, Draft, Outcome};
+use plan::{Draft, Outcome};
 use record::{Content, read};
 use record_entry::Tables;
 use scale::{Recorded, Scale};
-use std::alloc::{AllocError, Global};
+use std::alloc::Global;
+use std::io::{Read, Write};
+use workspace::{Workspace, copies, house_of};
 
 // How many cells are held at most.
 const CELLS: usize = 8192;
-
-// The line of a refusal.
-fn refused(heap: Global, number: u8, place: usize) -> Result<String, AllocError>
-    ensures { IfOk result (λ s. string_bytes s ≡ refused_line number place) }
-{
-    format!(in heap; "refused {number} {place}\n")
-}
-
-// The line of a contradiction.
-fn clash(heap: Global, at: Clash) -> Result<String, AllocError>
-    ensures { IfOk result (λ s. string_bytes s ≡ clash_line at.hour at.component at.label) }
-{
-    let hour = at.hour;
-    let component = at.component;
-    let label = at.label;
-    format!(in heap; "contradiction {hour} {component} {label}\n")
-}
-
-// The front of a table: its first n records, or all if there are fewer.
-fn front<T>(table: &[T], n: usize) -> &[T]
-    ensures { result.now ≡ take n table.now }
-{
-    if n < table.len() { &table[0..n] } else { table }
-}
-
-// As many copies of a value.
-fn copies<T: Copy>(heap: Global, x: T, n: usize) -> Result<Vec<T>, AllocError>
-    ensures { IfOk result (λ v. vec_len v ≡ n) }
-{
-    let mut v = Vec::new(heap);
-    for _i in 0..n {
-        v.push(x)?;
-    }
-    Ok(v)
-}
 
 // Settles a draft, and gives the text for what that came to.
 fn settled_text<S: Recorded, B: Book<S>>(
@@ -66,8 +33,8 @@ fn settled_text<S: Recorded, B: Book<S>>(
     let sizes = house.sizes;
     match draft.settle(house, book, facts, course) {
         Outcome::Settled(_plan) => Ok(listing(heap, sizes, course)?),
-        Outcome::Contradiction { at, .. } => Ok(clash(heap, at)?),
-        Outcome::Refused { refusal, .. } => Ok(refused(heap, refusal.number(), refusal.place())?),
+        Outcome::Contradiction { at, .. } => Ok(format!(in heap; "{at}\n")?),
+        Outcome::Refused { refusal, .. } => Ok(format!(in heap; "{refusal}\n")?),
     }
 }
 
@@ -84,20 +51,11 @@ fn conclude<S: Recorded>(
         draft,
         sizes,
         quorum,
-        counts,
     } = content;
-    let house = House {
-        sizes,
-        edges: front(tables.edges, counts.edges),
-        fixed: front(tables.fixed, counts.fixed),
-        tests: front(tables.tests, counts.tests),
-        conditions: front(tables.conditions, counts.conditions),
-        constraints: front(tables.constraints, counts.constraints),
-        rules: front(tables.rules, counts.rules),
-    };
-    let stairs: Stairs<S> = Stairs::over(front(tables.steps, counts.steps));
+    let house = house_of(sizes, tables);
+    let stairs: Stairs<S> = Stairs::over(tables.steps.records());
     let Ok(book) = Quorum::new(quorum, stairs) else {
-        return Err(anyhow!("the quorum is above 200"));
+        bail!("the quorum is above 200");
     };
     let mut course = copies(heap, S::loose(), sizes.cells().min(CELLS))?;
     settled_text(heap, &house, &book, draft, tables.facts, &mut course)
@@ -109,7 +67,7 @@ fn told<S: Recorded>(heap: Global, bytes: &[u8], tables: &mut Tables<S>) -> anyh
 {
     match read(bytes, tables) {
         Ok(content) => conclude(heap, content, tables),
-        Err(fault) => Ok(refused(heap, fault.number(), fault.place())?),
+        Err(fault) => Ok(format!(in heap; "{fault}\n")?),
     }
 }
 
@@ -117,60 +75,36 @@ fn told<S: Recorded>(heap: Global, bytes: &[u8], tables: &mut Tables<S>) -> anyh
 pub fn report<S: Recorded>(heap: Global, bytes: &[u8]) -> anyhow::Result<String>
     ensures { IfOk result (λ s. Reported S.Scale.size S.Scale.has S.Recorded.form bytes.now (string_bytes s)) }
 {
-    let bound = S::loose();
-    let body = Body { first: 0, count: 0 };
-    let rule = Rule {
-        target: 0,
-        delay: 0,
-        onto: 0,
-        along: 0,
-        source: 0,
-        body,
-        formula: 0,
-    };
-    let mut edges = copies(heap, Edge { from: 0, to: 0 }, 600)?;
-    let mut fixed = copies(heap, bound, 12_800)?;
-    let mut tests = copies(heap, Test { label: 0, bound }, 64)?;
-    let mut conditions = copies(
-        heap,
-        Condition {
-            kind: 0,
-            a: 0,
-            b: 0,
-        },
-        64,
-    )?;
-    let mut constraints = copies(heap, Constraint { head: 0, body }, 64)?;
-    let mut rules = copies(heap, rule, 64)?;
-    let mut steps = copies(
-        heap,
-        Stair {
-            formula: 0,
-            share: 0,
-            bound,
-        },
-        256,
-    )?;
-    let mut facts = copies(
-        heap,
-        Fact {
-            component: 0,
-            label: 0,
-            bound,
-            from: 0,
-            to: 0,
-        },
-        1000,
-    )?;
-    let mut tables = Tables {
-        edges: &mut edges,
-        fixed: &mut fixed,
-        tests: &mut tests,
-        conditions: &mut conditions,
-        constraints: &mut constraints,
-        rules: &mut rules,
-        steps: &mut steps,
-        facts: &mut facts,
-    };
-    told(heap, bytes, &mut tables)
+    let mut space = Workspace::<S>::new(heap)?;
+    told(heap, bytes, &mut space.tables())
+}
+
+// Reads a record file, whole, and writes its text.
+pub fn run<S: Recorded, R: Read, W: Write>(
+    heap: Global,
+    input: &mut R,
+    output: &mut W,
+) -> anyhow::Result<()>
+    ensures { OnOk result (Ran S.Scale.size S.Scale.has S.Recorded.form (R.remaining input.old) (R.remaining input.new) (W.contents output.old) (W.contents output.new)) }
+{
+    let mut bytes = Vec::new(heap);
+    let _ = input.read_to_end(&mut bytes)?;
+    let text = report::<S>(heap, &bytes)?;
+    output.write_all(text.as_bytes())?;
+    Ok(())
+}
+
+#[cfg(test)]
+mod tests {
+    use super::*;
+    use scale::Modes;
+
+    #[test]
+    fn a_file_from_memory_is_told(rt: HostRuntime) -> anyhow::Result<()> {
+        let mut file: &[u8] = b"no record file";
+        let mut text = Vec::new(rt.alloc());
+        run::<Modes, _, _>(rt.alloc(), &mut file, &mut text)?;
+        assert_eq!(rt; text.as_slice(), b"refused 21 0\n".as_slice());
+        Ok(())
+    }
 }

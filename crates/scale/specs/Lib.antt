@@ -5,3 +5,4 @@ pub mod Sets
 pub mod RangeFacts
 pub mod FourBytes
 pub mod SetFacts
+pub mod Texts

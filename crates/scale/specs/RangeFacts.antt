@@ -1,7 +1,7 @@
 -- Ranges of points: when one is void, when one is within another, and that its form says its points. Assumes nothing.
-use Rattle.std.specs.Prelude.{◌≡◌, ℕ, ◌<◌, ◌≤◌, min, Bool, true, false, ◌⊎◌, nat_le, nat_lt, refl}
+use Rattle.std.specs.Prelude.{◌≡◌, ℕ, ◌<◌, ◌≤◌, min, Bool, true, false, ◌⊎◌, refl}
 use Rattle.std.proofs.Common.{⊎_elim, inl, inr, sym, ap, ◌∙◌, arith}
-use Rattle.std.proofs.lemmas.Bool.{true≢false, and_parts, and_from, leb-true, leb-false, ltb-true, le-leb, lt-ltb, cases_Bool, cases_lt, cond-true, cond-false}
+use Rattle.std.proofs.lemmas.Bool.{true≢false, cases_Bool, cases_lt}
 use Rattle.std.proofs.lemmas.Bool.Decides.{same_from_decides, nat_tests}
 use Rattle.points.specs.Points.{Iff, Same, within, void}
 use Rattle.points.proofs.Decided.{within_decides, void_decides}
@@ -11,13 +11,10 @@ use Rattle.scale.specs.FourBytes.{halves_apart}
 use Rattle.scale.specs.Ranges.{range, points, ranging, named, range_form, Canonical, RangesApart}
 
 pub range_use : (low high p : ℕ) → range low high p ≡ true → (low ≤ p) × (p ≤ high) × (p < 1001)
-range_use low high p e =
-    let a = and_parts _ (nat_lt p 1001) e in
-    let b = and_parts (nat_le low p) (nat_le p high) a.0 in
-    (leb-true low p b.0, leb-true p high b.1, ltb-true p 1001 a.1)
+range_use low high p e = grind (arith, nat_tests)
 
 pub range_from : (low high p : ℕ) → low ≤ p → p ≤ high → p < 1001 → range low high p ≡ true
-range_from low high p a b c = and_from _ _ (and_from _ _ (le-leb low p a) (le-leb p high b)) (lt-ltb p 1001 c)
+range_from low high p a b c = grind (arith, nat_tests)
 
 -- an answer that is right at yes, and gives a witness at no, is void
 pub is_void : (low high : ℕ) (r : Bool) → (r ≡ true → low ≤ high → low < 1001 → ⊥) → (r ≡ false → (low ≤ high) × (low < 1001)) → r ≡ void 1001 (range low high)
@@ -40,8 +37,7 @@ is_within l h m k r f g =
 
 -- the named bound of two ends is the range cut at 1000, or the void where that is empty
 pub named_cases : (low high : ℕ) → ((low ≤ min high 1000) × (named low high ≡ ranging low (min high 1000))) ⊎ ((min high 1000 < low) × (named low high ≡ ranging 1 0))
-named_cases low high =
-    ⊎_elim (λ e. inl (leb-true _ _ e, cond-true _ _ _ e)) (λ e. inr (leb-false _ _ e, cond-false _ _ _ e)) (cases_Bool (nat_le low (min high 1000)))
+named_cases low high = grind (arith, nat_tests)
 
 -- it has the points from low to high
 pub named_points : (low high : ℕ) → Same (points (named low high)) (range low high)
@@ -55,23 +51,7 @@ named_canonical low high =
 
 -- ends with the same points have one named bound
 pub named_same : (a b c d : ℕ) → Same (range a b) (range c d) → named a b ≡ named c d
-named_same a b c d same =
-    ⊎_elim
-    (λ h. ⊎_elim
-    (λ k. let lo = range_use c d a (sym (same a) ∙ range_from a b a (omega arith) (omega arith) (omega arith)) in
-    let hi = range_use c d (min b 1000) (sym (same (min b 1000)) ∙ range_from a b (min b 1000) (omega arith) (omega arith) (omega arith)) in
-    let ol = range_use a b c (same c ∙ range_from c d c (omega arith) (omega arith) (omega arith)) in
-    let ih = range_use a b (min d 1000) (same (min d 1000) ∙ range_from c d (min d 1000) (omega arith) (omega arith) (omega arith)) in
-    let l : a ≡ c = omega arith in
-    let m : min b 1000 ≡ min d 1000 = omega arith in
-    h.1 ∙ (rw (l, m) (sym k.1)))
-    (λ k. let lo = range_use c d a (sym (same a) ∙ range_from a b a (omega arith) (omega arith) (omega arith)) in absurd (omega arith))
-    (named_cases c d))
-    (λ h. ⊎_elim
-    (λ k. let ol = range_use a b c (same c ∙ range_from c d c (omega arith) (omega arith) (omega arith)) in absurd (omega arith))
-    (λ k. h.1 ∙ sym k.1)
-    (named_cases c d))
-    (named_cases a b)
+named_same a b c d same = grind (arith, nat_tests, same a, same (min b 1000), same c, same (min d 1000))
 
 -- bounds have one form exactly where they have the same points
 pub range_one_form : (a b : Thousandths) → Iff (range_form a ≡ range_form b) (Same (points a) (points b))
@@ -83,11 +63,7 @@ range_one_form a b = (
 
 -- a named bound is the one that its own ends name
 pub canonical_named : (s : Thousandths) → Canonical s → s ≡ named s.low s.high
-canonical_named s k =
-    ⊎_elim (λ h. ranged s.low s.high h.0 h.1) (λ h. rw h) k
-  where
-    ranged : (low high : ℕ) → low ≤ high → high ≤ 1000 → ranging low high ≡ named low high
-    ranged low high a b = let m : min high 1000 ≡ high = omega arith in rw m (sym (cond-true (nat_le low high) _ _ (le-leb low high a)))
+canonical_named s k = grind (arith, nat_tests)
 
 -- different named bounds have different points
 pub all_apart : RangesApart

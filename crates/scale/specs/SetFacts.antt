@@ -1,10 +1,10 @@
 -- Sets of modes, by the bits of their masks. Assumes nothing.
-use Rattle.std.specs.Prelude.{◌≡◌, ℕ, zero, suc, ◌+◌, ◌-◌, ◌*◌, ◌/◌, ◌%◌, ◌^◌, ◌<◌, ◌≤◌, Bool, true, false, not, ◌&&◌, ◌==◌, ◌≢◌, nat_eq, nat_lt, refl}
+use Rattle.std.specs.Prelude.{◌≡◌, ℕ, zero, suc, ◌+◌, ◌-◌, ◌*◌, ◌/◌, ◌%◌, ◌^◌, ◌<◌, ◌≤◌, Bool, true, false, not, ◌&&◌, ◌==◌, nat_eq, nat_lt, refl}
 use Rattle.std.proofs.Common.{⊎_elim, sym, ap, ◌∙◌, mod-eq_of_lt, lt_of_le_of_lt, one-add, arith}
 use Rattle.std.specs.Int.Bits.{bit_and}
 use Rattle.std.proofs.Math.Pow.{mod-mod-pow}
 use Rattle.std.proofs.lemmas.Nat.{and_le_l, and_shr, and_mod, mod-pow-add, field_of, mod_below}
-use Rattle.std.proofs.lemmas.Bool.{and_parts, ltb-true, lt-ltb, le-ltb, eqb-true, eq-eqb, cases_lt, both_ways, not-true}
+use Rattle.std.proofs.lemmas.Bool.{and_parts, ltb-true, lt-ltb, le-ltb, eqb-true, eq-eqb, cases_lt, both_ways, not-true, false_from_ne_true}
 use Rattle.std.proofs.lemmas.Bool.Decides.{same_from_decides, nat_tests}
 use Rattle.points.specs.Points.{Iff, Same, Meet, Loose, each_below, within, void}
 use Rattle.points.proofs.Decided.{each_use, within_decides, void_decides}
@@ -92,16 +92,12 @@ pub modes_void : (a : ℕ) → a < 2 ^ 16 → (a == 0) ≡ void 16 (modes a)
 modes_void a l =
     same_from_decides (a == 0) (void 16 (modes a)) (
       (λ e p h. absurd (both_ways (modes a p) (none a p (eqb-true a 0 e)) h)),
-      λ empty. eq-eqb a 0 (sym (mod-eq_of_lt l) ∙ (modes_same a 0).1 (λ p. no_point (modes a p) (empty p) ∙ sym (none 0 p refl))),
+      λ empty. eq-eqb a 0 (sym (mod-eq_of_lt l) ∙ (modes_same a 0).1 (λ p. false_from_ne_true (modes a p) (empty p) ∙ sym (none 0 p refl))),
     )
     (void_decides 16 (modes a) (mode_below a))
   where
     none : (n p : ℕ) → n ≡ 0 → modes n p ≡ false
     none n p e = ⊎_elim (λ l. rw e (mode_bit 0 p l ∙ not-true (bit 0 p) (each_use 16 (λ k. not (bit 0 k)) none_set p l))) (no_mode n p) (cases_lt p 16)
-
-    no_point : (b : Bool) → (b ≢ true) → b ≡ false
-    no_point true h = absurd (h refl)
-    no_point false h = refl
 
 -- a mask is within another where the conjunction leaves it as it is
 pub modes_within : (a b : ℕ) → a < 2 ^ 16 → (bit_and a b == a) ≡ within 16 (modes a) (modes b)

@@ -6,7 +6,7 @@
 #![tactic(auto)]
 
 ghost use Rattle.std.specs.Prelude.{◌≡◌, ℕ, ◌<◌, true};
-ghost use Rattle.points.specs.Points.{Points, Loose, Meet, within, void};
+ghost use Rattle.points.specs.Points.{Iff, Points, Loose, Meet, within, void, is_loose};
 ghost use Rattle.scale.specs.Laws.{Laws};
 
 mod forms;
@@ -40,13 +40,19 @@ pub trait Scale: Copy {
     fn void(self) -> bool
         ensures { result ≡ void size (has self) };
 
+    // Whether this bound has every point.
+    final fn is_loose(self) -> bool
+        ensures answer { result ≡ is_loose size (has self) }
+        ensures means { Iff (result ≡ true) (Loose size (has self)) }
+    {
+        Self::loose().within(self)
+    }
+
     // A bound has points of the scale only.
     ghost inside: { (s : Self) (p : ℕ) → has s p ≡ true → p < size };
 }
 
-// Holds the laws of bounds, for every scale. It does nothing when run.
-pub fn laws_stand<S: Scale>() -> u8
+// The laws of bounds, for every scale: a theorem, with nothing to run.
+pub fn laws_stand<S: Scale>()
     ensures { Laws S.Scale.size S.Scale.has }
-{
-    0
-}
+{}

@@ -3,30 +3,45 @@
 // Bounds lie in tables that callers lend, so a value carries no invariant: whatever `low` and `high` hold, it means the
 // points from 0 to 1000 that lie from low to high. Every function goes by these points and gives named bounds only:
 // a range with low ≤ high ≤ 1000, or the void, 1 to 0.
-ghost use Rattle.std.specs.Prelude.{◌≡◌, ℕ, min, true, IfOk};
+ghost use Rattle.std.specs.Prelude.{◌≡◌, ℕ, min, true, Some, IfOk};
 ghost use Rattle.points.specs.Points.{Points, Loose, Meet, within, void};
 ghost use Rattle.scale.specs.Forms.{Reads};
 ghost use Rattle.scale.specs.Ranges.{points, ranging, named, range_form, Canonical, Ranged, Ends, RangesApart};
+ghost use Rattle.scale.specs.Texts.{not_a_range_text};
 ghost use Rattle.std.proofs.Common.{rules};
 ghost use Rattle.scale.specs.RangeFacts.{range_one_form};
 
 use super::{NotABound, Recorded, Scale};
+use std::error::Error;
+use std::fmt;
 
 // The highest point.
 const TOP: u16 = 1000;
 
-#[derive(Clone, Copy)]
+// A range of thousandths, or the void. Equality is not derived: two values may mean the same points.
+#[derive(Clone, Copy, Debug)]
 pub struct Thousandths {
     low: u16,
     high: u16,
 }
 
 // Two ends that make no range: low is above high, or high is above 1000.
-#[derive(Clone, Copy)]
+#[derive(Clone, Copy, PartialEq, Eq, Debug)]
 pub struct NotARange {
     pub low: u16,
     pub high: u16,
 }
+
+impl fmt::Display for NotARange {
+    ghost output = { λ e. Some (not_a_range_text e) };
+
+    fn fmt<W: fmt::Write>(&self, f: &mut fmt::Formatter<W>) -> fmt::Result {
+        let NotARange { low, high } = *self;
+        write!(f, "{low} to {high} is no range of thousandths")
+    }
+}
+
+impl Error for NotARange {}
 
 impl Thousandths {
     // The range from low to high, both included.
@@ -131,12 +146,10 @@ impl Recorded for Thousandths {
     }
 }
 
-// Holds that different named bounds have different points. It does nothing when run.
-pub fn ranges_apart() -> u8
+// Different named bounds have different points: a theorem, with nothing to run.
+pub fn ranges_apart()
     ensures { RangesApart }
-{
-    0
-}
+{}
 
 #[cfg(test)]
 mod tests {
@@ -167,6 +180,15 @@ mod tests {
         assert!(rt; Thousandths::from_bytes([0, 0, 3, 233]).is_err());
         assert!(rt; Thousandths::from_bytes([0, 7, 0, 3]).is_err());
         assert!(rt; Thousandths::from_bytes([0, 2, 0, 0]).is_err());
+    }
+
+    #[test]
+    fn loose_goes_by_points(rt: HostRuntime) {
+        assert!(rt; Thousandths::loose().is_loose());
+        assert!(rt; (Thousandths { low: 0, high: 5000 }).is_loose());
+        assert!(rt; !(Thousandths { low: 1, high: 5000 }).is_loose());
+        assert!(rt; !(Thousandths { low: 0, high: 999 }).is_loose());
+        assert!(rt; !Thousandths::none().is_loose());
     }
 
     #[test]

@@ -9,17 +9,19 @@ ghost use Rattle.scale.specs.SetFacts.{mode_below, set_one_form};
 
 use super::{NotABound, Recorded, Scale};
 
-#[derive(Clone, Copy)]
+// A set of modes. Equality is not derived: generic code compares bounds by their points.
+#[derive(Clone, Copy, Debug)]
 pub struct Modes {
     mask: u16,
 }
 
+// To and from a mask by name, and by no `From`: a number alone does not say that it is a mask.
 impl Modes {
     // The set of the modes i whose bit, worth 2^i, is set.
     pub fn of(mask: u16) -> Modes
         ensures { result ≡ masked mask }
     {
-        Modes { mask: mask }
+        Modes { mask }
     }
 
     // The mask of this set.
@@ -88,12 +90,10 @@ impl Recorded for Modes {
     }
 }
 
-// Holds that different sets have different modes. It does nothing when run.
-pub fn sets_apart() -> u8
+// Different sets have different modes: a theorem, with nothing to run.
+pub fn sets_apart()
     ensures { SetsApart }
-{
-    0
-}
+{}
 
 #[cfg(test)]
 mod tests {
@@ -109,6 +109,7 @@ mod tests {
         assert_eq!(rt; Modes::of(6).meet(Modes::of(3)).mask(), 2);
         assert_eq!(rt; Modes::of(0).to_bytes(), [0, 0, 0, 0]);
         assert!(rt; Modes::of(0).void() && !three.void());
+        assert!(rt; all.is_loose() && !three.is_loose());
     }
 
     #[test]

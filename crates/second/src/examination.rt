@@ -1,159 +1,81 @@
 // What is wrong with a network, if anything: the first check that fails, at its lowest record.
-use super::network::{Condition, Constraint, Network, Rule};
-
-// A check's number and the lowest record at which it fails.
-#[derive(Clone, Copy)]
-pub struct Defect {
-    pub number: usize,
-    pub place: usize,
-}
+use super::network::{Body, Condition, Constraint, Edge, Network, Rule};
+use super::refusals::Refusal;
 
 // Whether edge i names nodes, and no earlier edge has the same pair.
-fn edge_stands(network: &Network, i: usize) -> bool {
-    let Some(edge) = network.edges.get(i) else {
-        return false;
-    };
-    for earlier in network.edges.iter().take(i) {
-        if earlier.from == edge.from && earlier.to == edge.to {
-            return false;
-        }
-    }
-    edge.from < network.nodes && edge.to < network.nodes
+fn edge_stands(network: &Network, i: usize, edge: &Edge) -> bool {
+    let mut earlier = network.edges.iter().take(i);
+    edge.from < network.nodes && edge.to < network.nodes && earlier.all(|other| other != edge)
 }
 
-// Whether there is a test of this number, of a fixed label or of a moving one.
-fn tests(network: &Network, i: usize, fixed: bool) -> bool {
-    match network.tests.get(i) {
-        Some(test) => {
-            if fixed {
-                test.label < network.fixed_labels
-            } else {
-                network.moves(test.label)
-            }
+// Whether condition i tests a fixed label, or is made of earlier conditions.
+fn condition_stands(network: &Network, i: usize, condition: Condition) -> bool {
+    match condition {
+        Condition::Met(test) => {
+            let test = network.tests.get(test);
+            test.is_some_and(|test| test.label < network.fixed_labels)
         }
-        None => false,
-    }
-}
-
-// Whether condition i is as it has to be.
-fn condition_stands(network: &Network, i: usize, condition: &Condition) -> bool {
-    match condition.kind {
-        0 => tests(network, condition.a, true),
-        1 => condition.a < i,
-        2 | 3 => condition.a < i && condition.b < i,
-        _ => false,
+        Condition::Not(a) => a < i,
+        Condition::Both(a, b) | Condition::Either(a, b) => a < i && b < i,
+        Condition::Unknown(_) => false,
     }
 }
 
 // Whether a body ends with the tests or before.
-fn body_ends(network: &Network, first: usize, count: usize) -> bool {
-    first.saturating_add(count) <= network.tests.len()
+fn body_ends(network: &Network, body: Body) -> bool {
+    body.tests().end <= network.tests.len()
 }
 
+// Whether a constraint's head tests a moving label, and its body ends in time.
 fn constraint_stands(network: &Network, constraint: &Constraint) -> bool {
-    tests(network, constraint.head, false) && body_ends(network, constraint.first, constraint.count)
+    let head = network.tests.get(constraint.head);
+    head.is_some_and(|test| network.moves(test.label)) && body_ends(network, constraint.body)
 }
 
-// Whether a number names a condition, or is 255.
-fn names_condition(network: &Network, i: usize) -> bool {
-    i == 255 || i < network.conditions.len()
+// Whether there is such a formula: some stair has its number or a higher one.
+fn has_formula(network: &Network, formula: usize) -> bool {
+    let mut stairs = network.stairs.iter();
+    stairs.any(|stair| formula <= stair.formula)
 }
 
-// How many formulas the stairs have.
-fn formulas(network: &Network) -> usize {
-    let mut count = 0usize;
-    for stair in network.stairs.iter() {
-        count = count.max(stair.formula.saturating_add(1));
-    }
-    count
-}
-
-fn rule_stands(network: &Network, rule: &Rule, formulas: usize) -> bool {
-    let conditions = names_condition(network, rule.onto)
-        && names_condition(network, rule.along)
-        && names_condition(network, rule.source);
+// Whether each part of a rule is in its range.
+fn rule_stands(network: &Network, rule: &Rule) -> bool {
+    let conditions = [rule.onto, rule.along, rule.source];
+    let mut named = conditions.iter().flatten();
     network.moves(rule.target)
-        && rule.delay >= 1
-        && rule.delay <= 63
-        && conditions
-        && body_ends(network, rule.first, rule.count)
-        && rule.formula < formulas
+        && (1..=63).contains(&rule.delay)
+        && named.all(|i| *i < network.conditions.len())
+        && body_ends(network, rule.body)
+        && has_formula(network, rule.formula)
 }
 
-fn wrong_edge(network: &Network) -> Option<usize> {
-    for i in 0..network.edges.len() {
-        if !edge_stands(network, i) {
-            return Some(i);
-        }
-    }
-    None
-}
-
-fn void_fixed(network: &Network) -> Option<usize> {
-    for (i, bound) in network.fixed.iter().enumerate() {
-        if bound.is_empty() {
-            return Some(i);
-        }
-    }
-    None
-}
-
-fn wrong_test(network: &Network) -> Option<usize> {
-    for (i, test) in network.tests.iter().enumerate() {
-        if test.label >= network.labels() {
-            return Some(i);
-        }
-    }
-    None
-}
-
-fn wrong_condition(network: &Network) -> Option<usize> {
-    for (i, condition) in network.conditions.iter().enumerate() {
-        if !condition_stands(network, i, condition) {
-            return Some(i);
-        }
-    }
-    None
-}
-
-fn wrong_constraint(network: &Network) -> Option<usize> {
-    for (i, constraint) in network.constraints.iter().enumerate() {
-        if !constraint_stands(network, constraint) {
-            return Some(i);
-        }
-    }
-    None
-}
-
-fn wrong_rule(network: &Network) -> Option<usize> {
-    let formulas = formulas(network);
-    for (i, rule) in network.rules.iter().enumerate() {
-        if !rule_stands(network, rule, formulas) {
-            return Some(i);
-        }
-    }
-    None
+// Refuses, if there is a reason to.
+fn refuse(reason: Option<Refusal>) -> Result<(), Refusal> {
+    reason.map_or(Ok(()), Err)
 }
 
 // The first check that fails. Sizes and lengths are right in a network that was read.
-pub fn examine(network: &Network) -> Option<Defect> {
-    if let Some(place) = wrong_edge(network) {
-        return Some(Defect { number: 3, place });
-    }
-    if let Some(place) = void_fixed(network) {
-        return Some(Defect { number: 4, place });
-    }
-    if let Some(place) = wrong_test(network) {
-        return Some(Defect { number: 5, place });
-    }
-    if let Some(place) = wrong_condition(network) {
-        return Some(Defect { number: 6, place });
-    }
-    if let Some(place) = wrong_constraint(network) {
-        return Some(Defect { number: 7, place });
-    }
-    if let Some(place) = wrong_rule(network) {
-        return Some(Defect { number: 8, place });
-    }
-    None
+pub fn examine(network: &Network) -> Result<(), Refusal> {
+    let mut edges = network.edges.iter().enumerate();
+    let edge = edges.position(|(i, edge)| !edge_stands(network, i, edge));
+    refuse(edge.map(Refusal::Edge))?;
+
+    let bound = network.fixed.iter().position(|bound| bound.is_empty());
+    refuse(bound.map(Refusal::FixedBound))?;
+
+    let mut tests = network.tests.iter();
+    let test = tests.position(|test| test.label >= network.labels());
+    refuse(test.map(Refusal::Test))?;
+
+    let mut conditions = network.conditions.iter().enumerate();
+    let condition = conditions.position(|(i, condition)| !condition_stands(network, i, *condition));
+    refuse(condition.map(Refusal::Condition))?;
+
+    let mut constraints = network.constraints.iter();
+    let constraint = constraints.position(|constraint| !constraint_stands(network, constraint));
+    refuse(constraint.map(Refusal::Constraint))?;
+
+    let mut rules = network.rules.iter();
+    let rule = rules.position(|rule| !rule_stands(network, rule));
+    refuse(rule.map(Refusal::Rule))
 }

@@ -8,12 +8,14 @@ mod calls;
 mod examination;
 mod network;
 mod reading;
+mod refusals;
 mod sets;
 mod steps;
 mod text;
 
 pub use calls::{Call, Ledger};
-pub use network::{Fact, Network};
-pub use reading::{Stop, read};
-pub use sets::{Kind, Set};
+pub use network::{Cell, Fact, Network};
+pub use reading::read;
+pub use refusals::{Refusal, Size, Stop};
+pub use sets::{Halves, Kind, Set};
 pub use text::answer;

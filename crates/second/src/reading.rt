@@ -1,47 +1,35 @@
 // Reading a record file.
-use super::network::{Condition, Constraint, Edge, Fact, Network, Rule, Stair, Test};
+use super::network::{Body, Condition, Constraint, Edge, Fact, Network, Rule, Stair, Test};
+use super::refusals::{Refusal, Size, Stop};
 use super::sets::{Kind, Set};
-use std::alloc::{AllocError, AllocFailed, Global};
+use std::alloc::{AllocError, Global};
 
-// Why there is no network: a refusal, or want of memory.
-#[derive(Drop, Debug)]
-pub enum Stop {
-    Refusal { number: usize, place: usize },
-    Memory,
-}
+// The most bytes of a file.
+const BYTES: usize = 32_768;
 
-impl From<AllocError> for Stop {
-    fn from(_value: AllocError) -> Stop {
-        Stop::Memory
-    }
-}
+// The bytes of a record.
+const RECORD: usize = 16;
 
-impl<T: Drop> From<AllocFailed<T>> for Stop {
-    fn from(_value: AllocFailed<T>) -> Stop {
-        Stop::Memory
-    }
-}
+// The most tests, conditions, constraints or rules.
+const RECORDS: usize = 64;
 
-fn refuse<T>(number: usize, place: usize) -> Result<T, Stop> {
-    Err(Stop::Refusal { number, place })
-}
+// The most stairs.
+const STAIRS: usize = 256;
 
-fn byte(record: &[u8], k: usize) -> u8 {
-    record.get(k).copied().unwrap_or(0)
-}
+// The most facts.
+const FACTS: usize = 1000;
 
-// A number of one byte.
-fn single(record: &[u8], k: usize) -> usize {
-    byte(record, k) as usize
-}
+// The highest quorum.
+const QUORUM: usize = 200;
 
-// A number of two bytes.
-fn half(record: &[u8], k: usize) -> u16 {
-    u16::from_be_bytes([byte(record, k), byte(record, k.saturating_add(1))])
-}
+// The number of a rule's condition where there is none.
+const NO_CONDITION: usize = 255;
 
-fn double(record: &[u8], k: usize) -> usize {
-    half(record, k) as usize
+// A record: its number in the file, and its bytes. The first is a letter, which says what it is a record of.
+#[derive(Clone, Copy)]
+struct Record<'a> {
+    place: usize,
+    bytes: &'a [u8],
 }
 
 // Whether byte k of a record with this letter has a name.
@@ -50,9 +38,8 @@ fn named(letter: u8, k: usize) -> bool {
         b'S' => k <= 6,
         b'E' => k <= 4,
         b'X' => k <= 7,
-        b'T' => k <= 1 || k >= 4 && k <= 7,
-        b'C' => k <= 3,
-        b'K' => k <= 3,
+        b'T' => k <= 1 || (4..=7).contains(&k),
+        b'C' | b'K' => k <= 3,
         b'R' => k <= 8,
         b'Q' => k <= 7,
         b'F' => k <= 9,
@@ -60,85 +47,195 @@ fn named(letter: u8, k: usize) -> bool {
     }
 }
 
-// Whether a record's letter is known and its nameless bytes are 0.
-fn well_formed(record: &[u8]) -> bool {
-    let letter = byte(record, 0);
-    for (k, b) in record.iter().enumerate() {
-        if !named(letter, k) && *b != 0 {
-            return false;
+impl Record<'_> {
+    // Byte k, and 0 where there is none.
+    fn byte(self, k: usize) -> u8 {
+        self.bytes.get(k).copied().unwrap_or(0)
+    }
+
+    fn letter(self) -> u8 {
+        self.byte(0)
+    }
+
+    // A number of one byte.
+    fn single(self, k: usize) -> usize {
+        self.byte(k) as usize
+    }
+
+    // A number of two bytes.
+    fn double(self, k: usize) -> usize {
+        u16::from_be_bytes([self.byte(k), self.byte(k.saturating_add(1))]) as usize
+    }
+
+    // Whether the letter is known, the nameless bytes are 0, and a quorum is not too high.
+    fn well_formed(self) -> bool {
+        let letter = self.letter();
+        let mut bytes = self.bytes.iter().enumerate();
+        named(letter, 0)
+            && bytes.all(|(k, byte)| named(letter, k) || *byte == 0)
+            && (letter != b'S' || self.single(6) <= QUORUM)
+    }
+
+    fn edge(self) -> Edge {
+        Edge {
+            from: self.double(1),
+            to: self.double(3),
         }
     }
-    named(letter, 0)
+
+    // The bound in bytes 4 to 7.
+    fn bound(self, kind: Kind) -> Result<Set, Refusal> {
+        let form = [self.byte(4), self.byte(5), self.byte(6), self.byte(7)];
+        kind.bound(form).ok_or(Refusal::Bound(self.place))
+    }
+
+    fn test(self, kind: Kind) -> Result<Test, Refusal> {
+        Ok(Test {
+            label: self.single(1),
+            bound: self.bound(kind)?,
+        })
+    }
+
+    fn condition(self) -> Condition {
+        let (a, b) = (self.single(2), self.single(3));
+        match self.single(1) {
+            0 => Condition::Met(a),
+            1 => Condition::Not(a),
+            2 => Condition::Both(a, b),
+            3 => Condition::Either(a, b),
+            kind => Condition::Unknown(kind),
+        }
+    }
+
+    // The body in byte k and the next.
+    fn body(self, k: usize) -> Body {
+        Body {
+            first: self.single(k),
+            count: self.single(k.saturating_add(1)),
+        }
+    }
+
+    fn constraint(self) -> Constraint {
+        Constraint {
+            head: self.single(1),
+            body: self.body(2),
+        }
+    }
+
+    // The condition that a rule names in byte k, if it names one.
+    fn named_condition(self, k: usize) -> Option<usize> {
+        match self.single(k) {
+            NO_CONDITION => None,
+            i => Some(i),
+        }
+    }
+
+    fn rule(self) -> Rule {
+        Rule {
+            target: self.single(1),
+            delay: self.single(2),
+            onto: self.named_condition(3),
+            along: self.named_condition(4),
+            source: self.named_condition(5),
+            body: self.body(6),
+            formula: self.single(8),
+        }
+    }
+
+    fn stair(self, kind: Kind) -> Result<Stair, Refusal> {
+        Ok(Stair {
+            formula: self.single(1),
+            share: self.double(2),
+            bound: self.bound(kind)?,
+        })
+    }
+
+    fn fact(self, kind: Kind) -> Result<Fact, Refusal> {
+        Ok(Fact {
+            component: self.double(1),
+            label: self.single(3),
+            bound: self.bound(kind)?,
+            from: self.single(8),
+            to: self.single(9),
+        })
+    }
+
+    // Puts what the record says at the end of its table, if there is room for so many.
+    fn put<T: Drop>(self, table: &mut Vec<T>, room: usize, entry: T) -> Result<(), Stop> {
+        if table.len() >= room {
+            return Err(Refusal::NoRoom(self.place).into());
+        }
+        table.push(entry)?;
+        Ok(())
+    }
+
+    // Sets a fixed bound that is still loose.
+    fn set_fixed(self, network: &mut Network) -> Result<(), Refusal> {
+        let bound = self.bound(network.kind)?;
+        let (component, label) = (self.double(1), self.single(3));
+        if component >= network.components() || label >= network.fixed_labels {
+            return Err(Refusal::NoRoom(self.place));
+        }
+        let place = network.fixed_place(component, label);
+        match network.fixed.get_mut(place) {
+            Some(old) if *old == network.kind.all() => {
+                *old = bound;
+                Ok(())
+            }
+            _ => Err(Refusal::NoRoom(self.place)),
+        }
+    }
+
+    // Takes the record into a network that has the sizes and edges of the file.
+    fn take(self, network: &mut Network) -> Result<(), Stop> {
+        if !self.well_formed() {
+            return Err(Refusal::Form(self.place).into());
+        }
+        let kind = network.kind;
+        match self.letter() {
+            b'X' => Ok(self.set_fixed(network)?),
+            b'T' => self.put(&mut network.tests, RECORDS, self.test(kind)?),
+            b'C' => self.put(&mut network.conditions, RECORDS, self.condition()),
+            b'K' => self.put(&mut network.constraints, RECORDS, self.constraint()),
+            b'R' => self.put(&mut network.rules, RECORDS, self.rule()),
+            b'Q' => self.put(&mut network.stairs, STAIRS, self.stair(kind)?),
+            b'F' => network.file(self.fact(kind)?, FACTS, self.place),
+            // The sizes and the edges were taken before.
+            _ => Ok(()),
+        }
+    }
 }
 
-// How many records have a letter.
-fn tally(bytes: &[u8], letter: u8) -> usize {
-    let mut count = 0usize;
-    for record in bytes.chunks(16) {
-        if byte(record, 0) == letter {
-            count = count.saturating_add(1);
-        }
-    }
-    count
-}
-
-// The first record with a letter.
-fn first_of(bytes: &[u8], letter: u8) -> &[u8] {
-    for record in bytes.chunks(16) {
-        if byte(record, 0) == letter {
-            return record;
-        }
-    }
+// The records of a file.
+fn records(heap: Global, bytes: &[u8]) -> Result<Vec<Record<'_>>, AllocError> {
     bytes
+        .chunks(RECORD)
+        .enumerate()
+        .map(|(place, bytes)| Record { place, bytes })
+        .collect(heap)
 }
 
-fn outside(least: usize, n: usize, most: usize) -> bool {
-    n < least || most < n
+// The only record of the sizes.
+fn sizes_record<'a>(records: &[Record<'a>]) -> Result<Record<'a>, Refusal> {
+    let mut sizes = records.iter().filter(|record| record.letter() == b'S');
+    match (sizes.next(), sizes.next()) {
+        (Some(record), None) => Ok(*record),
+        _ => Err(Refusal::SizesRecord),
+    }
 }
 
-// The first size that is out of its limits: nodes, edges, fixed labels, moving labels, last hour.
-fn wrong_size(network: &Network, edges: usize) -> Option<usize> {
-    if outside(1, network.nodes, 200) {
-        return Some(0);
-    }
-    if outside(0, edges, 600) {
-        return Some(1);
-    }
-    if outside(0, network.fixed_labels, 16) {
-        return Some(2);
-    }
-    if outside(1, network.moving_labels, 8) {
-        return Some(3);
-    }
-    if outside(0, network.last, 63) {
-        return Some(4);
-    }
-    None
-}
-
-// The edges of a file, in its order.
-fn edges(heap: Global, bytes: &[u8]) -> Result<Vec<Edge>, AllocError> {
-    let mut edges = Vec::new(heap);
-    for record in bytes.chunks(16) {
-        if byte(record, 0) == b'E' {
-            let from = double(record, 1);
-            let to = double(record, 3);
-            edges.push(Edge { from, to })?;
-        }
-    }
-    Ok(edges)
-}
-
-// A network with the sizes of an S record, the edges and nothing else.
-fn sized(heap: Global, kind: Kind, record: &[u8], edges: Vec<Edge>) -> Network {
-    Network {
+// A network with the sizes of a file, its edges and nothing else.
+fn sized(heap: Global, kind: Kind, records: &[Record<'_>]) -> Result<Network, Stop> {
+    let sizes = sizes_record(records)?;
+    let edges = records.iter().filter(|record| record.letter() == b'E');
+    Ok(Network {
         kind,
-        nodes: double(record, 1),
-        moving_labels: single(record, 3),
-        fixed_labels: single(record, 4),
-        last: single(record, 5),
-        quorum: single(record, 6),
-        edges,
+        nodes: sizes.double(1),
+        moving_labels: sizes.single(3),
+        fixed_labels: sizes.single(4),
+        last: sizes.single(5),
+        quorum: sizes.single(6),
+        edges: edges.map(|record| record.edge()).collect(heap)?,
         fixed: Vec::new(heap),
         tests: Vec::new(heap),
         conditions: Vec::new(heap),
@@ -146,162 +243,37 @@ fn sized(heap: Global, kind: Kind, record: &[u8], edges: Vec<Edge>) -> Network {
         rules: Vec::new(heap),
         stairs: Vec::new(heap),
         facts: Vec::new(heap),
+    })
+}
+
+// Whether the sizes are within their limits.
+fn check_sizes(network: &Network) -> Result<(), Refusal> {
+    let sizes = [
+        (Size::Nodes, (1..=200).contains(&network.nodes)),
+        (Size::Edges, network.edges.len() <= 600),
+        (Size::FixedLabels, network.fixed_labels <= 16),
+        (Size::MovingLabels, (1..=8).contains(&network.moving_labels)),
+        (Size::LastHour, network.last <= 63),
+    ];
+    match sizes.iter().find(|(_, right)| !right) {
+        Some((size, _)) => Err(Refusal::Size(*size)),
+        None => Ok(()),
     }
-}
-
-// The bound in bytes 4 to 7 of a record.
-fn bound(network: &Network, at: usize, record: &[u8]) -> Result<Set, Stop> {
-    match network.kind.bound(half(record, 4), half(record, 6)) {
-        Some(set) => Ok(set),
-        None => refuse(23, at),
-    }
-}
-
-// Refuses where a table has as many records as it can hold.
-fn room(at: usize, held: usize, most: usize) -> Result<(), Stop> {
-    if held < most { Ok(()) } else { refuse(24, at) }
-}
-
-fn take_fixed(network: &mut Network, at: usize, record: &[u8]) -> Result<(), Stop> {
-    let set = bound(network, at, record)?;
-    let component = double(record, 1);
-    let label = single(record, 3);
-    if component >= network.components() || label >= network.fixed_labels {
-        return refuse(24, at);
-    }
-    let place = network.fixed_place(component, label);
-    let all = network.kind.all();
-    let Some(old) = network.fixed.get_mut(place) else {
-        return refuse(24, at);
-    };
-    if !old.same(&all) {
-        return refuse(24, at);
-    }
-    *old = set;
-    Ok(())
-}
-
-fn take_test(network: &mut Network, at: usize, record: &[u8]) -> Result<(), Stop> {
-    let set = bound(network, at, record)?;
-    room(at, network.tests.len(), 64)?;
-    let label = single(record, 1);
-    network.tests.push(Test { label, bound: set })?;
-    Ok(())
-}
-
-fn take_condition(network: &mut Network, at: usize, record: &[u8]) -> Result<(), Stop> {
-    room(at, network.conditions.len(), 64)?;
-    network.conditions.push(Condition {
-        kind: single(record, 1),
-        a: single(record, 2),
-        b: single(record, 3),
-    })?;
-    Ok(())
-}
-
-fn take_constraint(network: &mut Network, at: usize, record: &[u8]) -> Result<(), Stop> {
-    room(at, network.constraints.len(), 64)?;
-    network.constraints.push(Constraint {
-        head: single(record, 1),
-        first: single(record, 2),
-        count: single(record, 3),
-    })?;
-    Ok(())
-}
-
-fn take_rule(network: &mut Network, at: usize, record: &[u8]) -> Result<(), Stop> {
-    room(at, network.rules.len(), 64)?;
-    network.rules.push(Rule {
-        target: single(record, 1),
-        delay: single(record, 2),
-        onto: single(record, 3),
-        along: single(record, 4),
-        source: single(record, 5),
-        first: single(record, 6),
-        count: single(record, 7),
-        formula: single(record, 8),
-    })?;
-    Ok(())
-}
-
-fn take_stair(network: &mut Network, at: usize, record: &[u8]) -> Result<(), Stop> {
-    let set = bound(network, at, record)?;
-    room(at, network.stairs.len(), 256)?;
-    network.stairs.push(Stair {
-        formula: single(record, 1),
-        share: double(record, 2),
-        bound: set,
-    })?;
-    Ok(())
-}
-
-fn take_fact(network: &mut Network, at: usize, record: &[u8]) -> Result<(), Stop> {
-    let set = bound(network, at, record)?;
-    let fact = Fact {
-        component: double(record, 1),
-        label: single(record, 3),
-        bound: set,
-        from: single(record, 8),
-        to: single(record, 9),
-    };
-    if !network.holds_fact(&fact) {
-        return refuse(11, at);
-    }
-    if network.facts.len() >= 1000 {
-        return refuse(10, at);
-    }
-    network.facts.push(fact)?;
-    Ok(())
-}
-
-// Takes one record. Sizes and edges were taken before.
-fn take(network: &mut Network, at: usize, record: &[u8]) -> Result<(), Stop> {
-    if !well_formed(record) {
-        return refuse(22, at);
-    }
-    match byte(record, 0) {
-        b'S' => {
-            if network.quorum > 200 {
-                return refuse(22, at);
-            }
-            Ok(())
-        }
-        b'X' => take_fixed(network, at, record),
-        b'T' => take_test(network, at, record),
-        b'C' => take_condition(network, at, record),
-        b'K' => take_constraint(network, at, record),
-        b'R' => take_rule(network, at, record),
-        b'Q' => take_stair(network, at, record),
-        b'F' => take_fact(network, at, record),
-        _ => Ok(()),
-    }
-}
-
-// Makes every fixed bound loose.
-fn loosen_fixed(network: &mut Network) -> Result<(), AllocError> {
-    let all = network.kind.all();
-    for _i in 0..network.components().saturating_mul(network.fixed_labels) {
-        network.fixed.push(all)?;
-    }
-    Ok(())
 }
 
 // The network that a file describes.
 pub fn read(heap: Global, kind: Kind, bytes: &[u8]) -> Result<Network, Stop> {
-    if bytes.len() > 32_768 || bytes.len() % 16 != 0 {
-        return refuse(21, 0);
+    if bytes.len() > BYTES || bytes.len() % RECORD != 0 {
+        return Err(Refusal::Length.into());
     }
-    if tally(bytes, b'S') != 1 {
-        return refuse(25, 0);
-    }
-    let edges = edges(heap, bytes)?;
-    let mut network = sized(heap, kind, first_of(bytes, b'S'), edges);
-    if let Some(place) = wrong_size(&network, network.edges.len()) {
-        return refuse(1, place);
-    }
-    loosen_fixed(&mut network)?;
-    for (at, record) in bytes.chunks(16).enumerate() {
-        take(&mut network, at, record)?;
+    let records = records(heap, bytes)?;
+    let mut network = sized(heap, kind, &records)?;
+    check_sizes(&network)?;
+    // Every fixed bound is loose until a record sets it.
+    let fixed = network.components().saturating_mul(network.fixed_labels);
+    network.fixed = vec![in heap; kind.all(); fixed]?;
+    for record in records.iter() {
+        record.take(&mut network)?;
     }
     Ok(network)
 }

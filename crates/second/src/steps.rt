@@ -1,327 +1,226 @@
 // The joint step on a course, and its repetition from the loosest course until nothing changes.
 //
-// A course is a list of sets, one for each cell. Each function below says what one of the rules asks of one cell on the
-// present course; where it asks nothing, that is all points.
-use super::network::{Network, Rule};
+// A course is a list of sets, one for each cell. The methods of `Present` whose names end in `ask` say what one of the
+// rules asks of one cell on the present course; where it asks nothing, that is all points.
+use super::network::{Body, Cell, Condition, Constraint, Network, Rule, Test};
 use super::sets::Set;
 use std::alloc::{AllocError, Global};
 
-// What the conditions say on every component: condition i on component c stands at c times their number plus i.
+// What the conditions say: a row for each component, with what each condition says on it.
 #[derive(Drop)]
-pub struct Verdicts {
-    said: Vec<bool>,
-    conditions: usize,
+struct Verdicts {
+    rows: Vec<Vec<bool>>,
+}
+
+// What a condition that was judged says.
+fn said(row: &[bool], i: usize) -> bool {
+    row.get(i).copied().unwrap_or(false)
+}
+
+// What the conditions say on a component. Each speaks of earlier ones.
+fn judge(heap: Global, network: &Network, component: usize) -> Result<Vec<bool>, AllocError> {
+    let mut row = Vec::new(heap);
+    for condition in network.conditions.iter() {
+        let holds = match *condition {
+            Condition::Met(test) => fixed_met(network, component, test),
+            Condition::Not(a) => !said(&row, a),
+            Condition::Both(a, b) => said(&row, a) && said(&row, b),
+            Condition::Either(a, b) => said(&row, a) || said(&row, b),
+            Condition::Unknown(_) => false,
+        };
+        row.push(holds)?;
+    }
+    Ok(row)
+}
+
+// Whether a test of a fixed label is met on a component.
+fn fixed_met(network: &Network, component: usize, test: usize) -> bool {
+    let test = network.tests.get(test);
+    test.is_some_and(|test| test.met_by(&network.fixed_bound(component, test.label)))
 }
 
 impl Verdicts {
-    pub fn of(heap: Global, network: &Network) -> Result<Verdicts, AllocError> {
-        let mut verdicts = Verdicts {
-            said: Vec::new(heap),
-            conditions: network.conditions.len(),
-        };
-        for component in 0..network.components() {
-            verdicts.judge(network, component)?;
-        }
-        Ok(verdicts)
-    }
-
-    // Appends what the conditions say on a component.
-    fn judge(&mut self, network: &Network, component: usize) -> Result<(), AllocError> {
-        for condition in network.conditions.iter() {
-            let a = self.earlier(component, condition.a);
-            let b = self.earlier(component, condition.b);
-            let says = match condition.kind {
-                0 => fixed_met(network, component, condition.a),
-                1 => !a,
-                2 => a && b,
-                _ => a || b,
-            };
-            self.said.push(says)?;
-        }
-        Ok(())
-    }
-
-    // What a condition that was judged says.
-    fn earlier(&self, component: usize, i: usize) -> bool {
-        let at = component.saturating_mul(self.conditions).saturating_add(i);
-        self.said.get(at).copied().unwrap_or(false)
+    // What the conditions say on every component.
+    fn of(heap: Global, network: &Network) -> Result<Verdicts, AllocError> {
+        let rows = (0..network.components())
+            .map(|component| judge(heap, network, component))
+            .try_collect(heap)?;
+        Ok(Verdicts { rows })
     }
 
     // Whether a condition of a rule holds on a component.
-    fn hold(&self, component: usize, i: usize) -> bool {
-        i == 255 || self.earlier(component, i)
+    fn hold(&self, component: usize, condition: Option<usize>) -> bool {
+        let row = self.rows.get(component);
+        condition.is_none_or(|i| row.is_some_and(|row| said(row, i)))
     }
 }
 
-fn fixed_bound(network: &Network, component: usize, label: usize) -> Set {
-    let at = network.fixed_place(component, label);
-    network.fixed.get(at).copied().unwrap_or(Set::empty())
+// A network on its present course.
+#[derive(Clone, Copy)]
+struct Present<'a> {
+    network: &'a Network,
+    verdicts: &'a Verdicts,
+    course: &'a [Set],
+    // All points of the scale.
+    all: Set,
 }
 
-fn cell(network: &Network, cells: &[Set], hour: usize, component: usize, label: usize) -> Set {
-    let at = network.place(hour, component, label);
-    cells.get(at).copied().unwrap_or(Set::empty())
-}
-
-fn meets(seen: &Set, bound: &Set) -> bool {
-    !bound.is_empty() && seen.within(bound)
-}
-
-fn fixed_met(network: &Network, component: usize, i: usize) -> bool {
-    match network.tests.get(i) {
-        Some(test) => meets(&fixed_bound(network, component, test.label), &test.bound),
-        None => false,
-    }
-}
-
-fn test_met(network: &Network, cells: &[Set], hour: usize, component: usize, i: usize) -> bool {
-    let Some(test) = network.tests.get(i) else {
-        return false;
-    };
-    if test.label < network.fixed_labels {
-        return fixed_met(network, component, i);
-    }
-    let seen = cell(network, cells, hour, component, test.label);
-    meets(&seen, &test.bound)
-}
-
-// Whether a run of tests is met on a component at an hour.
-fn body_met(
-    network: &Network,
-    cells: &[Set],
-    hour: usize,
-    component: usize,
-    first: usize,
-    count: usize,
-) -> bool {
-    for i in first..first.saturating_add(count) {
-        if !test_met(network, cells, hour, component, i) {
-            return false;
+impl Present<'_> {
+    // What is known of a component's label at an hour: its fixed bound, or what the course has.
+    fn known(&self, cell: Cell) -> Set {
+        if cell.label < self.network.fixed_labels {
+            return self.network.fixed_bound(cell.component, cell.label);
         }
+        self.network.seen(self.course, cell)
     }
-    true
-}
 
-fn facts_ask(network: &Network, hour: usize, component: usize, label: usize) -> Set {
-    let mut asked = network.kind.all();
-    for fact in network.facts.iter() {
-        if fact.covers(hour, component, label) {
-            asked = asked.meet(&fact.bound);
+    // Whether a test is met on the component of a cell at its hour. The test is of its own label.
+    fn test_met(&self, test: &Test, cell: Cell) -> bool {
+        let label = test.label;
+        test.met_by(&self.known(Cell { label, ..cell }))
+    }
+
+    // Whether all tests of a body are met there.
+    fn body_met(&self, body: Body, cell: Cell) -> bool {
+        let tests = &self.network.tests;
+        body.tests().all(|i| tests.get(i).is_some_and(|test| self.test_met(test, cell)))
+    }
+
+    // What the facts ask.
+    fn facts_ask(&self, cell: Cell) -> Set {
+        let facts = self.network.facts.iter();
+        facts
+            .filter(|fact| fact.covers(cell))
+            .fold(self.all, |asked, fact| asked.meet(&fact.bound))
+    }
+
+    // The head of a constraint that asks something of a cell.
+    fn asking(&self, constraint: &Constraint, cell: Cell) -> Option<&Test> {
+        let head = self.network.tests.get(constraint.head);
+        head.filter(|head| head.label == cell.label && self.body_met(constraint.body, cell))
+    }
+
+    // What the constraints ask, whose bodies are met.
+    fn constraints_ask(&self, cell: Cell) -> Set {
+        let constraints = self.network.constraints.iter();
+        constraints
+            .filter_map(|constraint| self.asking(constraint, cell))
+            .fold(self.all, |asked, head| asked.meet(&head.bound))
+    }
+
+    // Whether a rule acts on a cell of a node.
+    fn acts(&self, rule: &Rule, cell: Cell) -> bool {
+        cell.component < self.network.nodes
+            && rule.target == cell.label
+            && rule.delay <= cell.hour
+            && self.verdicts.hold(cell.component, rule.onto)
+    }
+
+    // What a formula says where x of y neighbours qualify.
+    fn says(&self, formula: usize, x: usize, y: usize) -> Set {
+        if y < self.network.quorum || y == 0 {
+            return self.all;
         }
+        let stairs = self.network.stairs.iter();
+        stairs
+            .filter(|stair| stair.formula == formula && stair.reached(x, y))
+            .fold(self.all, |said, stair| said.meet(&stair.bound))
     }
-    asked
-}
 
-fn constraints_ask(
-    network: &Network,
-    cells: &[Set],
-    hour: usize,
-    component: usize,
-    label: usize,
-) -> Set {
-    let mut asked = network.kind.all();
-    for constraint in network.constraints.iter() {
-        let Some(head) = network.tests.get(constraint.head) else {
-            continue;
-        };
-        let (first, count) = (constraint.first, constraint.count);
-        if head.label == label && body_met(network, cells, hour, component, first, count) {
-            asked = asked.meet(&head.bound);
-        }
-    }
-    asked
-}
-
-// Whether a rule acts on a node's label at an hour.
-fn acts(
-    network: &Network,
-    verdicts: &Verdicts,
-    rule: &Rule,
-    hour: usize,
-    component: usize,
-    label: usize,
-) -> bool {
-    component < network.nodes
-        && rule.target == label
-        && rule.delay <= hour
-        && verdicts.hold(component, rule.onto)
-}
-
-// What a formula says where x of y neighbours qualify.
-fn says(network: &Network, formula: usize, x: usize, y: usize) -> Set {
-    let mut said = network.kind.all();
-    if y < network.quorum || y == 0 {
-        return said;
-    }
-    for stair in network.stairs.iter() {
-        let reached = x.saturating_mul(1000) >= stair.share.saturating_mul(y);
-        if stair.formula == formula && reached {
-            said = said.meet(&stair.bound);
-        }
-    }
-    said
-}
-
-// What a rule that acts on a node asks of its target cell. Neighbours are gathered as sets of nodes.
-fn rule_asks(
-    network: &Network,
-    verdicts: &Verdicts,
-    cells: &[Set],
-    rule: &Rule,
-    hour: usize,
-    node: usize,
-) -> Set {
-    let before = hour.saturating_sub(rule.delay);
-    let mut eligible = Set::empty();
-    let mut qualifying = Set::empty();
-    for (e, edge) in network.edges.iter().enumerate() {
-        let line = network.nodes.saturating_add(e);
-        if edge.to == node
-            && verdicts.hold(line, rule.along)
-            && verdicts.hold(edge.from, rule.source)
-        {
-            eligible.put(edge.from);
-            if body_met(network, cells, before, edge.from, rule.first, rule.count) {
-                qualifying.put(edge.from);
+    // The neighbours of a node that are eligible for a rule, as a set of nodes.
+    fn eligible(&self, rule: &Rule, node: usize) -> Set {
+        let mut eligible = Set::empty();
+        for (e, edge) in self.network.edges.iter().enumerate() {
+            let line = self.network.nodes.saturating_add(e);
+            if edge.to == node
+                && self.verdicts.hold(line, rule.along)
+                && self.verdicts.hold(edge.from, rule.source)
+            {
+                eligible.put(edge.from);
             }
         }
+        eligible
     }
-    says(network, rule.formula, qualifying.count(), eligible.count())
-}
 
-fn rules_ask(
-    network: &Network,
-    verdicts: &Verdicts,
-    cells: &[Set],
-    hour: usize,
-    component: usize,
-    label: usize,
-) -> Set {
-    let mut asked = network.kind.all();
-    for rule in network.rules.iter() {
-        if acts(network, verdicts, rule, hour, component, label) {
-            asked = asked.meet(&rule_asks(network, verdicts, cells, rule, hour, component));
+    // Whether a node qualifies for a rule that acts on a cell: the rule's body was met on it, the delay earlier.
+    fn qualifies(&self, rule: &Rule, cell: Cell, node: usize) -> bool {
+        let earlier = Cell {
+            hour: cell.hour.saturating_sub(rule.delay),
+            component: node,
+            ..cell
+        };
+        self.body_met(rule.body, earlier)
+    }
+
+    // What a rule that acts on a cell asks of it.
+    fn rule_asks(&self, rule: &Rule, cell: Cell) -> Set {
+        let eligible = self.eligible(rule, cell.component);
+        let qualifying = (0..self.network.nodes)
+            .filter(|node| eligible.has(*node) && self.qualifies(rule, cell, *node))
+            .count();
+        self.says(rule.formula, qualifying, eligible.count())
+    }
+
+    // What the rules ask that act.
+    fn rules_ask(&self, cell: Cell) -> Set {
+        let rules = self.network.rules.iter();
+        rules
+            .filter(|rule| self.acts(rule, cell))
+            .fold(self.all, |asked, rule| {
+                asked.meet(&self.rule_asks(rule, cell))
+            })
+    }
+
+    // Whether a cell is touched by a fact or a rule, so that it is not carried.
+    fn touched(&self, cell: Cell) -> bool {
+        let mut facts = self.network.facts.iter();
+        let mut rules = self.network.rules.iter();
+        facts.any(|fact| fact.covers(cell)) || rules.any(|rule| self.acts(rule, cell))
+    }
+
+    // What carrying asks: a cell that is not touched has only points that it had an hour before.
+    fn carrying_asks(&self, cell: Cell) -> Set {
+        if cell.hour == 0 || self.touched(cell) {
+            return self.all;
         }
+        let hour = cell.hour.saturating_sub(1);
+        self.known(Cell { hour, ..cell })
     }
-    asked
-}
 
-// Whether a cell is touched by a fact or a rule, so that it is not carried.
-fn touched(
-    network: &Network,
-    verdicts: &Verdicts,
-    hour: usize,
-    component: usize,
-    label: usize,
-) -> bool {
-    for fact in network.facts.iter() {
-        if fact.covers(hour, component, label) {
-            return true;
-        }
+    // What the joint step makes of a cell.
+    fn stepped(&self, cell: Cell) -> Set {
+        self.known(cell)
+            .meet(&self.facts_ask(cell))
+            .meet(&self.constraints_ask(cell))
+            .meet(&self.rules_ask(cell))
+            .meet(&self.carrying_asks(cell))
     }
-    for rule in network.rules.iter() {
-        if acts(network, verdicts, rule, hour, component, label) {
-            return true;
-        }
-    }
-    false
-}
 
-fn carrying_asks(
-    network: &Network,
-    verdicts: &Verdicts,
-    cells: &[Set],
-    hour: usize,
-    component: usize,
-    label: usize,
-) -> Set {
-    if hour == 0 || touched(network, verdicts, hour, component, label) {
-        return network.kind.all();
+    // The joint step on the whole course.
+    fn joint_step(&self, heap: Global) -> Result<Vec<Set>, AllocError> {
+        (0..self.network.cells())
+            .map(|place| self.stepped(self.network.cell_at(place)))
+            .collect(heap)
     }
-    cell(network, cells, hour.saturating_sub(1), component, label)
-}
-
-// What the joint step makes of a cell.
-fn stepped(
-    network: &Network,
-    verdicts: &Verdicts,
-    cells: &[Set],
-    hour: usize,
-    component: usize,
-    label: usize,
-) -> Set {
-    let old = cell(network, cells, hour, component, label);
-    let by_facts = facts_ask(network, hour, component, label);
-    let by_constraints = constraints_ask(network, cells, hour, component, label);
-    let by_rules = rules_ask(network, verdicts, cells, hour, component, label);
-    let by_carrying = carrying_asks(network, verdicts, cells, hour, component, label);
-    old.meet(&by_facts)
-        .meet(&by_constraints)
-        .meet(&by_rules)
-        .meet(&by_carrying)
-}
-
-// The joint step on a row of cells: those of one component at one hour.
-fn step_row(
-    network: &Network,
-    verdicts: &Verdicts,
-    cells: &[Set],
-    hour: usize,
-    component: usize,
-    next: &mut Vec<Set>,
-) -> Result<(), AllocError> {
-    for label in network.fixed_labels..network.labels() {
-        next.push(stepped(network, verdicts, cells, hour, component, label))?;
-    }
-    Ok(())
-}
-
-// The joint step on a whole course.
-fn joint_step(
-    heap: Global,
-    network: &Network,
-    verdicts: &Verdicts,
-    cells: &[Set],
-) -> Result<Vec<Set>, AllocError> {
-    let mut next = Vec::new(heap);
-    for hour in 0..network.last.saturating_add(1) {
-        for component in 0..network.components() {
-            step_row(network, verdicts, cells, hour, component, &mut next)?;
-        }
-    }
-    Ok(next)
-}
-
-// Whether two courses have the same points.
-fn same(a: &[Set], b: &[Set]) -> bool {
-    for (x, y) in a.iter().zip(b.iter()) {
-        if !x.same(y) {
-            return false;
-        }
-    }
-    true
-}
-
-// As many loose cells as the network has.
-pub fn loosest(heap: Global, network: &Network) -> Result<Vec<Set>, AllocError> {
-    let mut cells = Vec::new(heap);
-    let all = network.kind.all();
-    for _i in 0..network.cells() {
-        cells.push(all)?;
-    }
-    Ok(cells)
 }
 
 // The course at which repeated joint steps from the loosest one come to rest.
 pub fn settle(heap: Global, network: &Network) -> Result<Vec<Set>, AllocError> {
     let verdicts = Verdicts::of(heap, network)?;
-    let mut cells = loosest(heap, network)?;
+    let mut course = network.loosest(heap)?;
+    // Counted, so that it is proved to end. Each turn but the last takes points away, and there are far fewer than that.
     for _turn in 0..u64::MAX {
-        let next = joint_step(heap, network, &verdicts, &cells)?;
-        if same(&cells, &next) {
+        let present = Present {
+            network,
+            verdicts: &verdicts,
+            course: &course,
+            all: network.kind.all(),
+        };
+        let next = present.joint_step(heap)?;
+        if next == course {
             break;
         }
-        cells = next;
+        course = next;
     }
-    Ok(cells)
+    Ok(course)
 }

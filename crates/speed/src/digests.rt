@@ -8,12 +8,10 @@ const PRIME: u64 = 0x0000_0100_0000_01b3;
 
 // FNV-1a over the four-byte forms of the cells.
 pub fn digest<S: Recorded>(course: &[S]) -> u64 {
-    let mut hash = BASIS;
-    for cell in course {
-        let [a, b, c, d] = cell.to_bytes();
-        hash = mixed(mixed(mixed(mixed(hash, a), b), c), d);
-    }
-    hash
+    course
+        .iter()
+        .flat_map(|cell| cell.to_bytes())
+        .fold(BASIS, mixed)
 }
 
 fn mixed(hash: u64, byte: u8) -> u64 {
@@ -22,11 +20,8 @@ fn mixed(hash: u64, byte: u8) -> u64 {
 
 // How many cells are not loose.
 pub fn narrow_cells<S: Scale>(course: &[S]) -> usize {
-    let mut count = 0usize;
-    for cell in course {
-        if !S::loose().within(*cell) {
-            count = count.saturating_add(1);
-        }
-    }
-    count
+    course
+        .iter()
+        .filter(|cell| !S::loose().within(**cell))
+        .count()
 }

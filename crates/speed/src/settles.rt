@@ -1,42 +1,41 @@
 // Settling the plan of a record file, and timing it.
 use super::digests::{digest, narrow_cells};
-use anyhow::anyhow;
+use anyhow::bail;
 use book::{Book, Quorum, Stairs};
 use house::{Fact, House};
 use plan::{Clash, Draft, Outcome, Refusal};
 use record::{Content, read};
 use record_entry::Tables;
 use scale::{Recorded, Scale};
+use std::fmt;
 use std::time::Instant;
 use workspace::{Workspace, copies, front, house_of};
 
 // What settling came to.
 #[derive(Clone, Copy)]
 enum End {
-    Never,
     Settled,
     Contradiction(Clash),
     Refused(Refusal),
 }
 
-// Prints what settling came to.
-fn say(rt: &HostRuntime, end: End) -> anyhow::Result<()> {
-    match end {
-        End::Never => println!(rt; "never settled")?,
-        End::Settled => println!(rt; "settled")?,
-        End::Contradiction(at) => {
-            let hour = at.hour;
-            let component = at.component;
-            let label = at.label;
-            println!(rt; "contradiction {hour} {component} {label}")?
-        }
-        End::Refused(refusal) => {
-            let number = refusal.number();
-            let place = refusal.place();
-            println!(rt; "refused {number} {place}")?
+impl fmt::Display for End {
+    fn fmt<W: fmt::Write>(&self, f: &mut fmt::Formatter<W>) -> fmt::Result {
+        match self {
+            End::Settled => write!(f, "settled"),
+            End::Contradiction(at) => {
+                let hour = at.hour;
+                let component = at.component;
+                let label = at.label;
+                write!(f, "contradiction {hour} {component} {label}")
+            }
+            End::Refused(refusal) => {
+                let number = refusal.number();
+                let place = refusal.place();
+                write!(f, "refused {number} {place}")
+            }
         }
     }
-    Ok(())
 }
 
 // Settles a draft, and gives it back with what that came to.
@@ -54,25 +53,24 @@ fn settled<S: Scale, B: Book<S>>(
     }
 }
 
-// Settles a draft again and again, and prints how long each time takes.
-fn settle_often<S: Scale, B: Book<S>>(
+// Settles a draft again and again, prints how long each time takes, and gives what the last time came to.
+fn settle_often<F: FnMut(Draft) -> (Draft, End)>(
     rt: &HostRuntime,
     first: Draft,
-    house: &House<S>,
-    book: &B,
-    facts: &[Fact<S>],
-    course: &mut [S],
     rounds: u32,
-) -> anyhow::Result<End> {
+    mut settle: F,
+) -> anyhow::Result<Option<End>>
+    requires { F.IsAlwaysCallable settle }
+{
     let mut draft = first;
-    let mut end = End::Never;
+    let mut end = None;
     for _round in 0..rounds {
         let start = Instant::now(rt)?;
-        let (back, came) = settled(draft, house, book, facts, course);
+        let (back, came) = settle(draft);
         let spent = start.elapsed(rt)?.as_nanos();
         eprintln!(rt; "{spent}")?;
         draft = back;
-        end = came;
+        end = Some(came);
     }
     Ok(end)
 }
@@ -93,26 +91,28 @@ fn conclude<S: Recorded>(
     let house = house_of(sizes, counts, tables);
     let stairs: Stairs<S> = Stairs::over(front(tables.steps, counts.steps));
     let Ok(book) = Quorum::new(quorum, stairs) else {
-        return Err(anyhow!("the quorum is above 200"));
+        bail!("the quorum is above 200");
     };
     let mut course = copies(rt.alloc(), S::loose(), sizes.cells())?;
-    let end = settle_often(rt, draft, &house, &book, tables.facts, &mut course, rounds)?;
-    say(rt, end)?;
+    let end = settle_often(rt, draft, rounds, |draft| {
+        settled(draft, &house, &book, tables.facts, &mut course)
+    })?;
+    match end {
+        Some(end) => println!(rt; "{end}")?,
+        None => println!(rt; "never settled")?,
+    }
     let narrow = narrow_cells(&course);
     let hash = digest(&course);
     println!(rt; "{narrow} {hash:016x}")?;
     Ok(())
 }
 
-// Reads a file into the tables, and settles it.
-fn read_and_settle<S: Recorded>(
-    rt: &HostRuntime,
-    bytes: &[u8],
-    tables: &mut Tables<S>,
-    rounds: u32,
-) -> anyhow::Result<()> {
-    match read(bytes, tables) {
-        Ok(content) => conclude(rt, content, tables, rounds),
+// Settles the plan of a record file so often.
+pub fn run<S: Recorded>(rt: &HostRuntime, bytes: &[u8], rounds: u32) -> anyhow::Result<()> {
+    let mut space = Workspace::<S>::new(rt.alloc())?;
+    let mut tables = space.tables();
+    match read(bytes, &mut tables) {
+        Ok(content) => conclude(rt, content, &tables, rounds),
         Err(fault) => {
             let number = fault.number();
             let place = fault.place();
@@ -120,20 +120,4 @@ fn read_and_settle<S: Recorded>(
             Ok(())
         }
     }
-}
-
-// Settles the plan of a record file so often.
-pub fn run<S: Recorded>(rt: &HostRuntime, bytes: &[u8], rounds: u32) -> anyhow::Result<()> {
-    let mut space = Workspace::<S>::new(rt.alloc())?;
-    let mut tables = Tables {
-        edges: &mut space.edges,
-        fixed: &mut space.fixed,
-        tests: &mut space.tests,
-        conditions: &mut space.conditions,
-        constraints: &mut space.constraints,
-        rules: &mut space.rules,
-        steps: &mut space.steps,
-        facts: &mut space.facts,
-    };
-    read_and_settle(rt, bytes, &mut tables, rounds)
 }

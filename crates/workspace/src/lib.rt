@@ -1,14 +1,32 @@
 // What a program holds while it works on a record file: room for the tables, and the house that a file describes there.
 #![tactic(auto)]
 
-ghost use Rattle.std.specs.Prelude.{◌≡◌, take, replicate, IfOk};
-ghost use Rattle.workspace.specs.Spaces.{Roomy, Housed};
+ghost use Rattle.std.specs.Prelude.{◌≡◌, replicate, IfOk};
+ghost use Rattle.workspace.specs.Spaces.{Roomy, Housed, Lent};
 
 use book::Stair;
-use house::{Body, Condition, Constraint, Edge, Fact, House, Rule, Sizes, Test};
-use record_entry::{Counts, Tables};
+use house::{Body, Condition, Constraint, Edge, Fact, House, Kind, Rule, Sizes, Test};
+use record_entry::{Shelf, Tables};
 use scale::Scale;
 use std::alloc::{AllocError, Global};
+
+// For how many records of each kind there is room.
+const EDGES: usize = 600;
+
+// All fixed bounds of the largest house.
+const FIXED: usize = 12_800;
+
+const TESTS: usize = 64;
+
+const CONDITIONS: usize = 64;
+
+const CONSTRAINTS: usize = 64;
+
+const RULES: usize = 64;
+
+const STEPS: usize = 256;
+
+const FACTS: usize = 1000;
 
 // Room for the tables of a file.
 #[derive(Drop)]
@@ -28,24 +46,32 @@ impl<S: Scale> Workspace<S> {
     pub fn new(heap: Global) -> Result<Workspace<S>, AllocError>
         ensures { IfOk result Roomy }
     {
-        let edges = copies(heap, Edge { from: 0, to: 0 }, 600)?;
-        let fixed = copies(heap, S::loose(), 12_800)?;
-        let tests = copies(heap, blank_test(), 64)?;
-        let conditions = copies(heap, blank_condition(), 64)?;
-        let constraints = copies(heap, blank_constraint(), 64)?;
-        let rules = copies(heap, blank_rule(), 64)?;
-        let steps = copies(heap, blank_step(), 256)?;
-        let facts = copies(heap, blank_fact(), 1000)?;
         Ok(Workspace {
-            edges,
-            fixed,
-            tests,
-            conditions,
-            constraints,
-            rules,
-            steps,
-            facts,
+            edges: copies(heap, Edge { from: 0, to: 0 }, EDGES)?,
+            fixed: copies(heap, S::loose(), FIXED)?,
+            tests: copies(heap, blank_test(), TESTS)?,
+            conditions: copies(heap, blank_condition(), CONDITIONS)?,
+            constraints: copies(heap, blank_constraint(), CONSTRAINTS)?,
+            rules: copies(heap, blank_rule(), RULES)?,
+            steps: copies(heap, blank_step(), STEPS)?,
+            facts: copies(heap, blank_fact(), FACTS)?,
         })
+    }
+
+    // Lends the room as tables without records, for a file to be read into. What it holds afterwards is left open.
+    pub fn tables(&mut self) -> Tables<'_, S>
+        ensures { Lent self.old result }
+    {
+        Tables {
+            edges: Shelf::over(&mut self.edges),
+            fixed: Shelf::over(&mut self.fixed),
+            tests: Shelf::over(&mut self.tests),
+            conditions: Shelf::over(&mut self.conditions),
+            constraints: Shelf::over(&mut self.constraints),
+            rules: Shelf::over(&mut self.rules),
+            steps: Shelf::over(&mut self.steps),
+            facts: &mut self.facts,
+        }
     }
 }
 
@@ -58,7 +84,7 @@ fn blank_test<S: Scale>() -> Test<S> {
 
 fn blank_condition() -> Condition {
     Condition {
-        kind: 0,
+        kind: Kind::Test,
         a: 0,
         b: 0,
     }
@@ -75,9 +101,9 @@ fn blank_rule() -> Rule {
     Rule {
         target: 0,
         delay: 0,
-        onto: 0,
-        along: 0,
-        source: 0,
+        onto: None,
+        along: None,
+        source: None,
         body: Body { first: 0, count: 0 },
         formula: 0,
     }
@@ -105,35 +131,20 @@ fn blank_fact<S: Scale>() -> Fact<S> {
 pub fn copies<T: Copy>(heap: Global, x: T, n: usize) -> Result<Vec<T>, AllocError>
     ensures { IfOk result (λ v. v.items ≡ replicate n x) }
 {
-    let mut v = Vec::new(heap);
-    for _i in 0..n {
-        v.push(x)?;
-    }
-    Ok(v)
-}
-
-// The front of a table: its first n records, or all if there are fewer.
-pub fn front<T>(table: &[T], n: usize) -> &[T]
-    ensures { result.now ≡ take n table.now }
-{
-    if n < table.len() { &table[0..n] } else { table }
+    (0..n).map(|_i| x).collect(heap)
 }
 
 // The house of these sizes whose tables are the records that were read.
-pub fn house_of<'a, S: Scale>(
-    sizes: Sizes,
-    counts: Counts,
-    tables: &'a Tables<'_, S>,
-) -> House<'a, S>
-    ensures { Housed sizes counts tables.now result }
+pub fn house_of<'a, S: Scale>(sizes: Sizes, tables: &'a Tables<'_, S>) -> House<'a, S>
+    ensures { Housed sizes tables.now result }
 {
     House {
         sizes,
-        edges: front(tables.edges, counts.edges),
-        fixed: front(tables.fixed, counts.fixed),
-        tests: front(tables.tests, counts.tests),
-        conditions: front(tables.conditions, counts.conditions),
-        constraints: front(tables.constraints, counts.constraints),
-        rules: front(tables.rules, counts.rules),
+        edges: tables.edges.records(),
+        fixed: tables.fixed.records(),
+        tests: tables.tests.records(),
+        conditions: tables.conditions.records(),
+        constraints: tables.constraints.records(),
+        rules: tables.rules.records(),
     }
 }

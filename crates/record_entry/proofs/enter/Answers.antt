@@ -4,22 +4,18 @@ use Rattle.std.proofs.lemmas.Result.{err_from_is_err_and}
 use Rattle.record_entry.specs.Parts.{fact_in}
 use Rattle.record_entry.proofs.enter.Goals as goal
 
-pub returns-in_err-file-in-Fact : goal.returns-in_err-file-in-Fact
-returns-in_err-file-in-Fact g c =
-    let p = err_from_is_err_and c.from_residual-in_err-file-in-Fact.result c.from_residual-in_err-file-in-Fact.ensures.1 in
+pub returns-in_err-file-in-Fact-clause-does : goal.returns-in_err-file-in-Fact-clause-does
+returns-in_err-file-in-Fact-clause-does g c =
+    let p = err_from_is_err_and c.from_residual.result c.from_residual.ensures.1 in
     let q = c.in_err-file-in-Fact.ensures in
-    rw (p.1, p.2) (record {
-      does = (
-        (c.in-Fact.fact, ap (fact_in {B = g.row.S.Denot}) c.in-Fact.is, q.0),
-        record { edges = refl; fixed = refl; tests = refl; conditions = refl; constraints = refl; rules = refl; steps = refl; facts = q.2 },
-        refl,
-        q.1,
-      );
-      lent = (refl, refl, refl, refl, refl, refl, refl, refl);
-    })
+    rw (p.1, p.2) (
+      (c.in-Fact.fact, ap (fact_in {B = g.row.S.Denot}) c.in-Fact.is, q.0),
+      record { edges = refl; fixed = refl; tests = refl; conditions = refl; constraints = refl; rules = refl; steps = refl; facts = q.2; counts = refl },
+      q.1,
+    )
 
-pub returns-in_ok-file-in-Fact : goal.returns-in_ok-file-in-Fact
-returns-in_ok-file-in-Fact g c =
+pub returns-in_ok-file-in-Fact-clause-does : goal.returns-in_ok-file-in-Fact-clause-does
+returns-in_ok-file-in-Fact-clause-does g c =
     let q = c.in_ok-file-in-Fact.ensures in
     let space : c.args.draft.now.count < length c.args.tables.now.facts.now = ltb-true _ _ (q.0.1.1.1.0 0 (omega arith)) in
     search rules

@@ -1,17 +1,12 @@
-use Rattle.std.proofs.Common.{ap, ◌∙◌, arith}
-use Rattle.std.proofs.lemmas.List.{take_all}
-use Rattle.book.specs.Steps.{formulas_of}
-use Rattle.book.proofs.Counting.{formulas_none, formulas_more}
+use Rattle.std.proofs.Common.{◌+◌, unwrap_or, ap, ◌∙◌, rules, tests}
+use Rattle.std.proofs.lemmas.Iterator.{YieldsList-from_slice, YieldsList-from_map}
+use Rattle.std.proofs.lemmas.Iterator.Consumers.{reduce_from_yields_List}
+use Rattle.book.proofs.Counting.{counts_by_max}
 use Rattle.book.proofs.steps.counted.Goals as goal
-
-pub loop-step-init : goal.loop-step-init
-loop-step-init g c = formulas_none _
-
-pub loop-step-preserved : goal.loop-step-preserved
-loop-step-preserved g c =
-    let more = formulas_more g.T.Step.number c.args.steps.now c.loop-step.step-index c.step-item.result c.loop-step-test.true c.step-item.is in
-    grind arith
 
 pub returns : goal.returns
 returns g c =
-    c.loop-step.invariant ∙ ap (formulas_of g.T.Step.number) (take_all c.loop-step.step-index c.args.steps.now c.loop-step-test.false)
+    let steps = c.args.steps.now in
+    c.unwrap_or.ensures
+    ∙ ap (λ o. unwrap_or o 0) (reduce_from_yields_List _ c.map.result _ c.max.ensures.ran (YieldsList-from_map _ (λ t. g.T.Step.number t + 1) (YieldsList-from_slice steps cc) c.map.ensures.closure (λ x b q k. search (rules, tests))))
+    ∙ counts_by_max g.T.Step.number steps

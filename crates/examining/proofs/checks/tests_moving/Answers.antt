@@ -5,8 +5,8 @@ use Rattle.examining.proofs.checks.tests_moving.Goals as goal
 
 pub returns-in-Some : goal.returns-in-Some
 unfolding tests_moving_lem
-returns-in-Some g c = c.moves.ensures ∙ sym (at_read false _ c.args.tests.now c.args.which c.in-Some.test.now (search rules) (search rules))
+returns-in-Some g c = c.moves.ensures ∙ sym (at_read false _ c.args.house.now.tests.now c.args.which c.in-Some.test.now (search rules) (search rules))
 
 pub returns-in-None : goal.returns-in-None
 unfolding tests_moving_lem
-returns-in-None g c = sym (at_else false _ c.args.tests.now c.args.which (search rules))
+returns-in-None g c = sym (at_else false _ c.args.house.now.tests.now c.args.which (search rules))

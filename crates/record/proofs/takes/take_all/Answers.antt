@@ -1,42 +1,42 @@
-use Rattle.std.proofs.Common.{◌+◌, [], ◌∷◌, ◌++◌, refl, ap, ◌∙◌}
+use Rattle.std.proofs.Common.{◌≡◌, [], ◌∷◌, ◌++◌, refl, arith, rules}
 use Rattle.std.proofs.lemmas.List.{length_push}
-use Rattle.record.proofs.Taking.{So, so_none, so_more, so_stops, lent_on}
+use Rattle.std.proofs.lemmas.Result.{err_from_is_err_and}
+use Rattle.record.specs.Faults.{placed}
+use Rattle.record.proofs.Taking.{So, so_none, so_more, so_stops, lent_on, passed, failed}
 use Rattle.record.proofs.takes.take_all.Goals as goal
 
 pub loop-i-init : goal.loop-i-init
 loop-i-init g c =
     let so =
-    so_none g.S.Scale.size g.S.Scale.has g.S.Recorded.form c.args.lines.now c.args.sizes c.args.tables.now _ c.open-draft.result.count
-    (ap (λ f. record { edges = 0; fixed = f; tests = 0; conditions = 0; constraints = 0; rules = 0; steps = 0 }) c.fixed_places.ensures)
-    c.open-draft.ensures in
-    ([], refl, so.taken, so.counts, so.filings, (refl, refl, refl, refl, refl, refl, refl, refl))
+    so_none g.S.Scale.size g.S.Scale.has g.S.Recorded.form c.args.lines.now c.args.sizes c.args.tables.now c.open-draft.result.count
+    c.requires c.open-draft.ensures in
+    ([], refl, so.taken, so.filings, (refl, refl, refl, refl, refl, refl, refl, refl))
 
-pub returns-in-Err : goal.returns-in-Err
-returns-in-Err g c =
+pub returns-in_err-map_err-clause-does : goal.returns-in_err-map_err-clause-does
+returns-in_err-map_err-clause-does g c =
+    let p = err_from_is_err_and c.from_residual.result c.from_residual.ensures.1 in
+    let f = failed _ c.take.result c.map_err.result c.map_err.ensures.cases c.in_err-map_err.field-0.0 c.in_err-map_err.was in
+    let told : c.in_err-map_err.field-0.0 ≡ placed f.0 c.loop-i.i-counter = let t = f.2 in search rules in
     let i = c.loop-i.invariant in
-    let d = c.in-Err.ensures in
-    let so : So g.S.Scale.size g.S.Scale.has g.S.Recorded.form c.args.lines.now c.args.sizes c.args.tables.now i.0 c.loop-i.tables c.loop-i.counts c.loop-i.draft.count =
-    record { taken = i.2; counts = i.3; filings = i.4 } in
-    rw c.at.ensures (record {
-      does = so_stops g.S.Scale.size g.S.Scale.has g.S.Recorded.form c.args.lines.now c.args.sizes c.args.tables.now c.requires i.0 c.loop-i.tables
-          c.loop-i.counts c.loop-i.draft so c.in-Err.fault c.loop-i.i c.take.new.tables c.take.new.counts c.take.new.draft i.1 c.loop-i-test.true d.does;
-      lent = lent_on c.args.tables.now c.loop-i.tables c.take.new.tables i.5 d.lent;
-    })
+    let so : So g.S.Scale.size g.S.Scale.has g.S.Recorded.form c.args.lines.now c.args.sizes c.args.tables.now i.0 c.loop-i.tables c.loop-i.draft.count =
+    record { taken = i.2; filings = i.3 } in
+    rw (p.1, p.2, told) (so_stops g.S.Scale.size g.S.Scale.has g.S.Recorded.form c.args.lines.now c.args.sizes c.args.tables.now c.requires i.0 c.loop-i.tables
+    c.loop-i.draft so f.0 c.loop-i.i-counter c.take.new.tables c.take.new.draft i.1 c.loop-i-test.true (rw f.1 at c.take.ensures.does))
 
 pub loop-i-preserved : goal.loop-i-preserved
 loop-i-preserved g c =
+    let p = passed _ c.take.result c.map_err.result c.map_err.ensures.cases c.in_ok-map_err.field-0 c.in_ok-map_err.was in
     let i = c.loop-i.invariant in
-    let d = c.in-Ok.ensures in
-    let so : So g.S.Scale.size g.S.Scale.has g.S.Recorded.form c.args.lines.now c.args.sizes c.args.tables.now i.0 c.loop-i.tables c.loop-i.counts c.loop-i.draft.count =
-    record { taken = i.2; counts = i.3; filings = i.4 } in
-    let r = d.does.0 in
+    let d = rw p at c.take.ensures.does in
+    let so : So g.S.Scale.size g.S.Scale.has g.S.Recorded.form c.args.lines.now c.args.sizes c.args.tables.now i.0 c.loop-i.tables c.loop-i.draft.count =
+    record { taken = i.2; filings = i.3 } in
+    let r = d.0 in
     let more =
-    so_more g.S.Scale.size g.S.Scale.has g.S.Recorded.form c.args.lines.now c.args.sizes c.args.tables.now c.requires i.0 c.loop-i.tables c.loop-i.counts
-    c.loop-i.draft.count so r c.take.new.tables c.take.new.counts c.take.new.draft.count (rw i.1 d.does.1) d.does.2.0 d.does.2.1 in (
+    so_more g.S.Scale.size g.S.Scale.has g.S.Recorded.form c.args.lines.now c.args.sizes c.args.tables.now c.requires i.0 c.loop-i.tables
+    c.loop-i.draft.count so r c.take.new.tables c.take.new.draft.count (rw i.1 d.1) d.2.0 d.2.1 in (
       i.0 ++ r ∷ [],
-      length_push i.0 r ∙ ap (λ k. k + 1) i.1,
+      omega (arith, length_push i.0 r, i.1),
       more.taken,
-      more.counts,
       more.filings,
-      lent_on c.args.tables.now c.loop-i.tables c.take.new.tables i.5 d.lent,
+      lent_on c.args.tables.now c.loop-i.tables c.take.new.tables i.4 c.take.ensures.lent,
     )
