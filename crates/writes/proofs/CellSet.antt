@@ -111,7 +111,7 @@ module _ {S : Type 0} (has : S → Points) (s : Sizes) (cells : List S) (x : Cel
         pick false z k = refl
 
 -- a test of a bound goes by its points
-within_all : (n : ℕ) (a b : Points) → Among a b → within n a b ≡ true
+pub within_all : (n : ℕ) (a b : Points) → Among a b → within n a b ≡ true
 unfolding within
 within_all n a b all = each_from n _ (λ p l. implies_from (a p) (b p) (all p))
 
