@@ -1,6 +1,7 @@
 -- One hour after the other: nothing that a fitting course has is lost, and each hour grants what it keeps. Assumes nothing.
 use Rattle.std.proofs.Common.{◌≡◌, ℕ, ◌+◌, ◌-◌, ◌<◌, ◌≤◌, true, List, sym, ◌∙◌, subst, ⊎_elim, arith}
 use Rattle.std.proofs.lemmas.Bool.{and_parts, and_from, cases_lt}
+use Rattle.std.proofs.lemmas.List.{get_or_default}
 use Rattle.points.specs.Points.{Points, Among, Same}
 use Rattle.points.specs.Tables.{Every}
 use Rattle.points.proofs.Tabled.{all_from}
@@ -25,7 +26,6 @@ use Rattle.engine.specs.Started.{Started}
 use Rattle.engine.specs.Pressed.{rules_grant}
 use Rattle.engine.specs.Constrained.{Resting, Constrained}
 use Rattle.engine.specs.Hours.{SettledBefore}
-use Rattle.engine.proofs.Held.{read_again}
 
 -- an accepted house is ready
 pub accepted_ready : {S : Type 0} (n : ℕ) (has : S → Points) (h : House S) (formulas : ℕ) → Accepted n has h formulas → Ready n has h formulas
@@ -37,8 +37,8 @@ accepted_ready n has h formulas accepted =
         few_conditions = lawful.condition_count;
         all_edges = lawful.edge_count;
         graph = record {
-          from_node = λ i lt. (lawful.edge_ends i lt (edge_at h.edges.now i) (read_again h.edges.now i _ lt)).0;
-          no_repeat = λ i j lt in'. lawful.edges_differ i j lt in' (edge_at h.edges.now i) (edge_at h.edges.now j) (read_again h.edges.now i _ (omega arith)) (read_again h.edges.now j _ in');
+          from_node = λ i lt. (lawful.edge_ends i lt (edge_at h.edges.now i) (get_or_default h.edges.now i _ _ lt)).0;
+          no_repeat = λ i j lt in'. lawful.edges_differ i j lt in' (edge_at h.edges.now i) (edge_at h.edges.now j) (get_or_default h.edges.now i _ _ (omega arith)) (get_or_default h.edges.now j _ _ in');
         };
       };
       few_components = omega (arith, lawful.sizes.nodes_most, lawful.sizes.edges_most);

@@ -1,4 +1,3 @@
-mod Held
 mod Starting
 mod VoidCells
 mod Those

@@ -1,8 +1,9 @@
 -- Void cells, by their places. Assumes nothing.
-use Rattle.std.proofs.Common.{◌≡◌, ℕ, zero, suc, ◌+◌, ◌<◌, true, false, not, List, [], ◌∷◌, length, get_or, Some, None, Option, sym, refl, ◌∙◌, subst, ⊎_elim, arith, below_more}
-use Rattle.std.proofs.lemmas.List.{get_or_read}
+use Rattle.std.proofs.Common.{◌≡◌, ℕ, zero, suc, ◌<◌, true, false, not, List, [], ◌∷◌, length, get_or, Some, None, Option, sym, refl, ◌∙◌, subst, ⊎_elim, arith}
+use Rattle.std.specs.List.{AllWithin, HoldsAt, FoldsTo}
 use Rattle.std.proofs.lemmas.Bool.{and_cases, not-false, true≢false, cases_Bool}
 use Rattle.points.specs.Points.{Points, void, each_below}
+use Rattle.points.specs.Tables.{Every}
 use Rattle.points.proofs.Decided.{void_decides}
 use Rattle.points.proofs.Tabled.{at_read}
 use Rattle.house.specs.declared.tables.Sizes.{Sizes}
@@ -26,10 +27,6 @@ has_point n a e = found n e
 pub cell_found : (s : Sizes) (i : ℕ) (x : Cell) → i < cell_count s → x.hour ≡ hour_at s i → x.component ≡ component_at s i → x.label ≡ label_at s i → CellAt s i (Some x)
 cell_found s i x lt et ec el = (rw (et, ec, el) (inside_from s _ _ _ (cell_at s i lt)), rw (et, ec, el) (place_at s i))
 
--- every bound before a place has a point
-unfoldable pub FullBelow : {S : Type 0} → ℕ → (S → Points) → List S → ℕ → Type 0
-FullBelow {S} n has cells i = (k : ℕ) → k < i → (x : S) → x ≡ get_or cells k x → void n (has x) ≡ false
-
 module _ {S : Type 0} (n : ℕ) (has : S → Points) (low : (x : S) (p : ℕ) → has x p ≡ true → p < n) (s : Sizes) (cells : List S) (whole : Whole s cells) where
   read_at : (ys : List S) (i : ℕ) → i < length ys → (x : S) × (x ≡ get_or ys i x)
   read_at [] i l = absurd (omega arith)
@@ -40,30 +37,30 @@ module _ {S : Type 0} (n : ℕ) (has : S → Points) (low : (x : S) (p : ℕ) �
   unfolding course_of
   cell_is t c l p x in' is = rw in' (at_read false (λ y. has y p) cells (place s t c l) x (rw whole (place_lt s t c l (inside_use s t c l in'))) is)
 
-  full_cell : (i : ℕ) → FullBelow n has cells i → (t c l : ℕ) → inside s t c l ≡ true → place s t c l < i → (p : ℕ) × (course_of s has cells t c l p ≡ true)
-  unfolding FullBelow
+  -- every bound before a place has a point
+  abbrev pub FullBelow : ℕ → Type 0
+  FullBelow i = AllWithin (λ x. void n (has x) ≡ false) cells 0 i
+
+  full_cell : (i : ℕ) → FullBelow i → (t c l : ℕ) → inside s t c l ≡ true → place s t c l < i → (p : ℕ) × (course_of s has cells t c l p ≡ true)
   full_cell i full t c l in' lt =
       let r = read_at cells (place s t c l) (rw whole (place_lt s t c l (inside_use s t c l in'))) in
-      let q = has_point n (has r.0) (full (place s t c l) lt r.0 r.1) in
+      let q = has_point n (has r.0) (rw (← r.1) at (full (place s t c l) r.0 (omega arith) lt)) in
       (q.0, cell_is t c l q.0 r.0 in' r.1 ∙ q.1)
 
-  pub none_void : FullBelow n has cells (length cells) → FirstVoid s (course_of s has cells) None
+  pub none_void : FullBelow (length cells) → FirstVoid s (course_of s has cells) None
   none_void full t c l in' = full_cell (length cells) full t c l in' (rw whole (place_lt s t c l (inside_use s t c l in')))
 
-  pub some_void : (i : ℕ) (x : S) (r : Option Cell) → i < length cells → x ≡ get_or cells i x → true ≡ void n (has x) → FullBelow n has cells i → CellAt s i r → FirstVoid s (course_of s has cells) r
-  some_void i x (Some y) lt is v full at = (
+  pub some_void : (i : ℕ) (r : Option Cell) → i < length cells → HoldsAt (λ x. void n (has x) ≡ true) cells i → FullBelow i → CellAt s i r → FirstVoid s (course_of s has cells) r
+  some_void i (Some y) lt v full at = (
     at.0,
-    (λ p. ⊎_elim (λ e. absurd ((void_decides n (has x) (low x)).0 (sym v) p (sym (cell_is y.hour y.component y.label p x at.0 (rw at.1 is)) ∙ e))) (λ e. e) (cases_Bool (course_of s has cells y.hour y.component y.label p))),
+    (λ p. let r = read_at cells i lt in
+        ⊎_elim (λ e. absurd ((void_decides n (has r.0) (low r.0)).0 (rw (← r.1) at (v r.0)) p (sym (cell_is y.hour y.component y.label p r.0 at.0 (rw at.1 r.1)) ∙ e))) (λ e. e) (cases_Bool (course_of s has cells y.hour y.component y.label p))),
     λ t c l in' before. full_cell i full t c l in' (rw at.1 at before),
   )
-  some_void i x None lt is v full at = absurd (omega (arith, whole, lt, at))
+  some_void i None lt v full at = absurd (omega (arith, whole, lt, at))
 
--- a loop's start and step
-module _ {S : Type 0} (n : ℕ) (has : S → Points) (cells : List S) where
-  pub full_none : FullBelow n has cells 0
-  unfolding FullBelow
-  full_none k lt x is = absurd (omega arith)
-
-  pub full_more : (i : ℕ) (y : S) → y ≡ get_or cells i y → i < length cells → false ≡ void n (has y) → FullBelow n has cells i → FullBelow n has cells (i + 1)
-  unfolding FullBelow
-  full_more i y is lt e full = below_more _ i full (λ x q. subst (λ (z : S). void n (has z) ≡ false) (get_or_read cells i y lt is x ∙ sym q) (sym e))
+-- a property of what each call of a closure gives is one of every element that the calls made
+pub made : {P A : Type 0} (R : P → A → P → Type 0) (Q : A → Type 0) (p last : P) (xs : List A) → ((x : A) (q : P) → R p x q → (q ≡ p) × Q x) → FoldsTo R p xs last → Every xs Q
+made R Q p last [] each f i lt x is = absurd (omega arith)
+made R Q p last (y ∷ ys) each f zero lt x is = subst Q (sym is) (each y f.0 f.1).1
+made R Q p last (y ∷ ys) each f (suc i) lt x is = made R Q p last ys each (rw (each y f.0 f.1).0 at f.2) i (omega arith) x is

@@ -8,8 +8,8 @@ ghost use Rattle.engine.specs.Pressed.{on_those};
 ghost use Rattle.engine.specs.Constrained.{Elsewhere, fires, spent_count, Resting, Constrained};
 
 use super::components;
-use house::{Cell, Constraint, House};
-use judge::body_met;
+use house::{Constraint, House};
+use judge::{Spot, body_met};
 use scale::Scale;
 use writes::tighten;
 
@@ -19,30 +19,30 @@ pub fn constrain_hour<S: Scale>(house: &House<S>, cells: &mut [S], hour: u8)
     ensures rests { components house.now.sizes ≤ 65535 → (c : ℕ) → c < components house.now.sizes → Resting S.Scale.size S.Scale.has house.now hour c (course_of house.now.sizes S.Scale.has cells.new) }
 {
     for component in 0..components(house.sizes) {
-        constrain(house, cells, hour, component);
+        constrain(house, cells, Spot { hour, component });
     }
 }
 
 // Applies the constraints to one component, pass after pass, until a pass changes nothing. A constraint that has
 // narrowed its cell does not do so again, so that this ends.
-fn constrain<S: Scale>(house: &House<S>, cells: &mut [S], hour: u8, component: u16)
-    ensures narrowed { Constrained S.Scale.size S.Scale.has house.now hour (course_of house.now.sizes S.Scale.has cells.old) (course_of house.now.sizes S.Scale.has cells.new) }
-    ensures elsewhere { Elsewhere hour component (course_of house.now.sizes S.Scale.has cells.old) (course_of house.now.sizes S.Scale.has cells.new) }
-    ensures rests { Resting S.Scale.size S.Scale.has house.now hour component (course_of house.now.sizes S.Scale.has cells.new) }
+fn constrain<S: Scale>(house: &House<S>, cells: &mut [S], spot: Spot)
+    ensures narrowed { Constrained S.Scale.size S.Scale.has house.now spot.hour (course_of house.now.sizes S.Scale.has cells.old) (course_of house.now.sizes S.Scale.has cells.new) }
+    ensures elsewhere { Elsewhere spot.hour spot.component (course_of house.now.sizes S.Scale.has cells.old) (course_of house.now.sizes S.Scale.has cells.new) }
+    ensures rests { Resting S.Scale.size S.Scale.has house.now spot.hour spot.component (course_of house.now.sizes S.Scale.has cells.new) }
 {
-    while pass(house, cells, hour, component) {}
+    while pass(house, cells, spot) {}
 }
 
 // Applies each constraint once to a component, and says whether one narrowed a cell.
-fn pass<S: Scale>(house: &House<S>, cells: &mut [S], hour: u8, component: u16) -> bool
-    ensures narrowed { Constrained S.Scale.size S.Scale.has house.now hour (course_of house.now.sizes S.Scale.has cells.old) (course_of house.now.sizes S.Scale.has cells.new) }
-    ensures elsewhere { Elsewhere hour component (course_of house.now.sizes S.Scale.has cells.old) (course_of house.now.sizes S.Scale.has cells.new) }
-    ensures rests { result ≡ false → Resting S.Scale.size S.Scale.has house.now hour component (course_of house.now.sizes S.Scale.has cells.new) }
-    ensures spends { result ≡ true → spent_count S.Scale.size S.Scale.has house.now (course_of house.now.sizes S.Scale.has cells.old) hour component < spent_count S.Scale.size S.Scale.has house.now (course_of house.now.sizes S.Scale.has cells.new) hour component }
+fn pass<S: Scale>(house: &House<S>, cells: &mut [S], spot: Spot) -> bool
+    ensures narrowed { Constrained S.Scale.size S.Scale.has house.now spot.hour (course_of house.now.sizes S.Scale.has cells.old) (course_of house.now.sizes S.Scale.has cells.new) }
+    ensures elsewhere { Elsewhere spot.hour spot.component (course_of house.now.sizes S.Scale.has cells.old) (course_of house.now.sizes S.Scale.has cells.new) }
+    ensures rests { result ≡ false → Resting S.Scale.size S.Scale.has house.now spot.hour spot.component (course_of house.now.sizes S.Scale.has cells.new) }
+    ensures spends { result ≡ true → spent_count S.Scale.size S.Scale.has house.now (course_of house.now.sizes S.Scale.has cells.old) spot.hour spot.component < spent_count S.Scale.size S.Scale.has house.now (course_of house.now.sizes S.Scale.has cells.new) spot.hour spot.component }
 {
     let mut fired = false;
     for constraint in house.constraints {
-        if apply(house, cells, hour, component, *constraint) {
+        if apply(house, cells, spot, *constraint) {
             fired = true;
         }
     }
@@ -51,26 +51,16 @@ fn pass<S: Scale>(house: &House<S>, cells: &mut [S], hour: u8, component: u16) -
 
 // Applies one constraint to a component, and says whether it narrowed a cell: where its body is met, and the cell of
 // its head is not within the head's bound.
-fn apply<S: Scale>(
-    house: &House<S>,
-    cells: &mut [S],
-    hour: u8,
-    component: u16,
-    constraint: Constraint,
-) -> bool
-    ensures narrowed { Narrowed (course_of house.now.sizes S.Scale.has cells.old) (on_those hour (λ c. nat_eq c component) (λ t c l p. constraint_grants S.Scale.size S.Scale.has house.now (course_of house.now.sizes S.Scale.has cells.old) t c l p constraint))
+fn apply<S: Scale>(house: &House<S>, cells: &mut [S], spot: Spot, constraint: Constraint) -> bool
+    ensures narrowed { Narrowed (course_of house.now.sizes S.Scale.has cells.old) (on_those spot.hour (λ c. nat_eq c spot.component) (λ t c l p. constraint_grants S.Scale.size S.Scale.has house.now (course_of house.now.sizes S.Scale.has cells.old) t c l p constraint))
         (course_of house.now.sizes S.Scale.has cells.new) }
-    ensures tells { result ≡ fires S.Scale.size S.Scale.has house.now (course_of house.now.sizes S.Scale.has cells.old) hour component constraint }
+    ensures tells { result ≡ fires S.Scale.size S.Scale.has house.now (course_of house.now.sizes S.Scale.has cells.old) spot.hour spot.component constraint }
 {
-    let at = constraint.head as usize;
-    if at >= house.tests.len() || !body_met(house, cells, hour, component, constraint.body) {
+    let Some(head) = house.tests.get(constraint.head as usize) else {
+        return false;
+    };
+    if !body_met(house, cells, spot, constraint.body) {
         return false;
     }
-    let head = house.tests[at];
-    let cell = Cell {
-        hour,
-        component,
-        label: head.label,
-    };
-    tighten(house.sizes, cells, cell, head.bound)
+    tighten(house.sizes, cells, spot.cell(head.label), head.bound)
 }

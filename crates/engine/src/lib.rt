@@ -8,12 +8,12 @@
 ghost use Rattle.std.specs.Prelude.{◌≡◌, ◌+◌, ◌≤◌, min, length};
 ghost use Rattle.house.specs.Cells.{components};
 ghost use Rattle.fitting.specs.Course.{course_of};
-ghost use Rattle.judge.specs.Judged.{AllJudged};
 ghost use Rattle.writes.specs.Written.{Whole};
 ghost use Rattle.engine.specs.Ready.{Ready};
 ghost use Rattle.engine.specs.Hours.{SettledBefore, Settles};
 
 mod constraints;
+mod judged;
 mod rules;
 mod start;
 mod voids;
@@ -21,15 +21,12 @@ mod voids;
 use book::Book;
 use constraints::constrain_hour;
 use house::{Fact, House, Sizes};
-use judge::Verdicts;
+use judged::Judged;
 use rules::apply_rules;
 use scale::Scale;
 use start::start_hour;
 pub use voids::{first_void, loosen};
 use writes::lay_facts;
-
-// The most components that a house can have.
-const MOST_COMPONENTS: usize = 800;
 
 // Writes the loosest course that fits the house and the facts into the cells, whatever they held.
 pub fn settle_hours<S: Scale, B: Book<S>>(
@@ -41,44 +38,31 @@ pub fn settle_hours<S: Scale, B: Book<S>>(
     ensures settled { Settles S.Scale.size S.Scale.has house.now (B.Book.says book.now) facts.now (B.Book.formulas book.now) course.old course.new }
     ensures length { length course.new ≡ length course.old }
 {
-    let mut verdicts = [Verdicts::of(house, 0); MOST_COMPONENTS];
-    judge_all(house, &mut verdicts);
+    let judged = Judged::of(house);
     for hour in 0..=house.sizes.last {
-        settle_hour(house, book, &verdicts, facts, course, hour);
+        settle_hour(&judged, book, facts, course, hour);
     }
 }
 
 // Settles one hour, when those before it are settled.
 fn settle_hour<S: Scale, B: Book<S>>(
-    house: &House<S>,
+    judged: &Judged<S>,
     book: &B,
-    verdicts: &[Verdicts],
     facts: &[Fact<S>],
     cells: &mut [S],
     hour: u8,
 )
-    ensures { Ready S.Scale.size S.Scale.has house.now (B.Book.formulas book.now) → AllJudged S.Scale.size S.Scale.has house.now verdicts.now → Whole house.now.sizes cells.old → hour ≤ house.now.sizes.last →
-        SettledBefore S.Scale.size S.Scale.has house.now (B.Book.says book.now) facts.now hour (course_of house.now.sizes S.Scale.has cells.old) →
-        SettledBefore S.Scale.size S.Scale.has house.now (B.Book.says book.now) facts.now (hour + 1) (course_of house.now.sizes S.Scale.has cells.new) }
+    ensures { Ready S.Scale.size S.Scale.has judged.now.house.now (B.Book.formulas book.now) → Whole judged.now.house.now.sizes cells.old → hour ≤ judged.now.house.now.sizes.last →
+        SettledBefore S.Scale.size S.Scale.has judged.now.house.now (B.Book.says book.now) facts.now hour (course_of judged.now.house.now.sizes S.Scale.has cells.old) →
+        SettledBefore S.Scale.size S.Scale.has judged.now.house.now (B.Book.says book.now) facts.now (hour + 1) (course_of judged.now.house.now.sizes S.Scale.has cells.new) }
 {
-    start_hour(house, verdicts, facts, cells, hour);
-    lay_facts(house.sizes, facts, cells, hour);
-    apply_rules(house, book, verdicts, cells, hour);
-    constrain_hour(house, cells, hour);
+    start_hour(judged, facts, cells, hour);
+    lay_facts(judged.house.sizes, facts, cells, hour);
+    apply_rules(judged, book, cells, hour);
+    constrain_hour(judged.house, cells, hour);
 }
 
-// Works out which conditions hold on every component, as far as there is room.
-fn judge_all<S: Scale>(house: &House<S>, verdicts: &mut [Verdicts])
-    ensures { components house.now.sizes ≤ 65535 → components house.now.sizes ≤ length verdicts.old → AllJudged S.Scale.size S.Scale.has house.now verdicts.new }
-{
-    for component in 0..components(house.sizes) {
-        if (component as usize) < verdicts.len() {
-            verdicts[component as usize] = Verdicts::of(house, component);
-        }
-    }
-}
-
-// How many components there are, or the largest number of 16 bits if there are more.
+// How many components there are, in the 16 bits of their numbers: the largest number if there are more.
 fn components(sizes: Sizes) -> u16
     ensures { result ≡ min (components sizes) 65535 }
 {

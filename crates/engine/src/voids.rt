@@ -10,9 +10,8 @@ use scale::Scale;
 pub fn loosen<S: Scale>(course: &mut [S])
     ensures { AllLoose S.Scale.size S.Scale.has course.new }
 {
-    for cell in course.iter_mut() {
-        *cell = S::loose();
-    }
+    let loose = S::loose();
+    course.fill_with(|| loose);
 }
 
 // The cell that stands at a place, if there is one: cells stand hour by hour, in an hour component by component, there
@@ -28,7 +27,7 @@ fn cell_at(sizes: Sizes, at: usize) -> Option<Cell>
     let component = row % sizes.components();
     Some(Cell {
         hour: (row / sizes.components()) as u8,
-        component: component.min(65535) as u16,
+        component: u16::try_from(component).ok()?,
         label: sizes.fixed.saturating_add((at % moving) as u8),
     })
 }
@@ -37,10 +36,6 @@ fn cell_at(sizes: Sizes, at: usize) -> Option<Cell>
 pub fn first_void<S: Scale>(sizes: Sizes, course: &[S]) -> Option<Cell>
     ensures { Numbered sizes → Whole sizes course.now → FirstVoid sizes (course_of sizes S.Scale.has course.now) result }
 {
-    for (at, cell) in course.iter().enumerate() {
-        if cell.void() {
-            return cell_at(sizes, at);
-        }
-    }
-    None
+    let at = course.iter().position(|cell| cell.void())?;
+    cell_at(sizes, at)
 }

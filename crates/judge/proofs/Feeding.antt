@@ -1,11 +1,11 @@
 -- Neighbours counted by edges, and that these are the nodes counted. Assumes nothing.
 use Rattle.std.proofs.Common.{◌≡◌, ℕ, zero, suc, ◌+◌, ◌-◌, ◌<◌, ◌≤◌, min, Bool, true, false, ◌&&◌, eqb, List, [], ◌∷◌, length, get_or, Some, None, Option, sym, refl, ap, ◌∙◌, ⊎_elim, add-one, arith}
 use Rattle.std.proofs.lemmas.List.{get_or_past}
-use Rattle.std.proofs.lemmas.Bool.{cases_lt, eq-eqb, ne_eqb}
+use Rattle.std.proofs.lemmas.Bool.{cases_lt}
 use Rattle.points.specs.Points.{Points, count_below}
 use Rattle.points.specs.Tables.{at_place}
 use Rattle.points.proofs.Counted.{count_ext}
-use Rattle.points.proofs.Tabled.{at-get_or, at_else}
+use Rattle.points.proofs.Tabled.{at-get_or}
 use Rattle.house.specs.declared.tables.House.{House}
 use Rattle.house.specs.declared.tables.Edge.{Edge}
 use Rattle.house.specs.declared.tables.Rule.{Rule}
@@ -19,33 +19,13 @@ use Rattle.fitting.specs.Neighbours.{eligibles, qualified}
 use Rattle.fitting.proofs.ByEdges.{eligibles_by_edges, qualified_by_edges}
 use Rattle.fitting.proofs.Narrow.{eligibles_le, qualified_le}
 use Rattle.judge.specs.declared.verdicts.Verdicts.{Verdicts}
+use Rattle.judge.specs.declared.counts.Count.{Count}
 use Rattle.judge.specs.Judged.{held_by, held_on_lem, feeds, Judges, AllJudged, Countable}
 use Rattle.judge.proofs.Verdict.{said_later}
 
 -- the body is met on the node that edge e leaves
 unfoldable pub meets_body : {S : Type 0} → ℕ → (S → Points) → House S → Course → ℕ → Body → ℕ → Bool
 meets_body n has h a t body e = at_place false (λ edge. body_met_lem n has h a t edge.from body) h.edges.now e
-
--- what makes an edge feed a node
-module _ {S : Type 0} (h : House S) (vs : List Verdicts) (r : Rule) (v e : ℕ) (l : e < length h.edges.now) (d : Edge) where
-  feeds_is : feeds h vs r v e ≡ ((eqb (get_or h.edges.now e d).to v && held_on_lem vs r.source (get_or h.edges.now e d).from) && held_on_lem vs r.along (h.sizes.nodes + e))
-  unfolding feeds
-  feeds_is = ap (λ x. x && held_on_lem vs r.along (h.sizes.nodes + e)) (at-get_or false (λ edge. eqb edge.to v && held_on_lem vs r.source edge.from) h.edges.now e d l)
-
-  pub feeds_other : ((get_or h.edges.now e d).to ≡ v → ⊥) → false ≡ feeds h vs r v e
-  feeds_other ne = sym (feeds_is ∙ (rw (ne_eqb _ v ne)))
-
-  pub feeds_unfit : (b : Bool) → (get_or h.edges.now e d).to ≡ v → b ≡ held_on_lem vs r.source (get_or h.edges.now e d).from → b ≡ false → false ≡ feeds h vs r v e
-  feeds_unfit b same is no' = sym (feeds_is ∙ (rw (eq-eqb _ v same, ← is, no')))
-
-  pub feeds_fit : (b o : Bool) → (get_or h.edges.now e d).to ≡ v → b ≡ held_on_lem vs r.source (get_or h.edges.now e d).from → b ≡ true →
-      o ≡ held_on_lem vs r.along (h.sizes.nodes + e) → o ≡ feeds h vs r v e
-  feeds_fit b o same is yes' on = sym (feeds_is ∙ (rw (eq-eqb _ v same, ← is, yes', ← on)))
-
--- no edge there
-pub feeds_none : {S : Type 0} (h : House S) (vs : List Verdicts) (r : Rule) (v e : ℕ) → length h.edges.now ≤ e → false ≡ feeds h vs r v e
-unfolding feeds
-feeds_none h vs r v e l = sym (ap (λ x. x && held_on_lem vs r.along (h.sizes.nodes + e)) (at_else false (λ edge. eqb edge.to v && held_on_lem vs r.source edge.from) h.edges.now e l))
 
 count_yes : (f : ℕ → Bool) (e k m : ℕ) → k ≡ min (count_below e f) 65535 → f e ≡ true → m ≡ min (k + 1) 65535 → m ≡ min (count_below (e + 1) f) 65535
 unfolding count_below
@@ -59,37 +39,38 @@ module _ {S : Type 0} (n : ℕ) (has : S → Points) (h : House S) (a : Course) 
   abbrev pub both : ℕ → Bool
   both e = feeds h vs r v e && meets_body n has h a (t - r.delay) r.body e
 
-  -- of the edges below e, y feed the node, and on the nodes of x of these the body is met; both counts stop at 65,535
-  unfoldable pub Tallied : ℕ → ℕ → ℕ → Type 0
-  Tallied e y x = (y ≡ min (count_below e (feeds h vs r v)) 65535) × (x ≡ min (count_below e both) 65535)
+  -- of the edges below e, so many feed the node, and on the nodes of so many of these the body is met; both counts stop
+  -- at 65,535
+  unfoldable pub Tallied : ℕ → Count → Type 0
+  Tallied e count = (count.eligible ≡ min (count_below e (feeds h vs r v)) 65535) × (count.qualifying ≡ min (count_below e both) 65535)
 
-  pub tallied_none : Tallied 0 0 0
+  pub tallied_none : Tallied 0 (record { eligible = 0; qualifying = 0 })
   unfolding Tallied count_below
   tallied_none = (refl, refl)
 
-  pub tallied_skip : (e y x : ℕ) (f : Bool) → Tallied e y x → f ≡ feeds h vs r v e → f ≡ false → Tallied (e + 1) y x
-  unfolding Tallied
-  tallied_skip e y x f w is no' =
-      let off : feeds h vs r v e ≡ false = sym is ∙ no' in
-      (count_no (feeds h vs r v) e y w.0 off, count_no both e x w.1 (rw off))
+  -- one edge more: whether it feeds the node, and whether the body is met on its node
+  module _ (e : ℕ) (count : Count) (d : Edge) (f : Bool) (lt : e < length h.edges.now) (so_far : Tallied e count)
+      (says : f ≡ ((eqb (get_or h.edges.now e d).to v && held_on_lem vs r.source (get_or h.edges.now e d).from) && held_on_lem vs r.along (h.sizes.nodes + e))) where
+    edge_fed : feeds h vs r v e ≡ f
+    unfolding feeds
+    edge_fed = ap (λ x. x && held_on_lem vs r.along (h.sizes.nodes + e)) (at-get_or false (λ edge. eqb edge.to v && held_on_lem vs r.source edge.from) h.edges.now e d lt) ∙ sym says
 
-  pub tallied_unmet : (e y y' x : ℕ) (f b : Bool) (d : Edge) → Tallied e y x → f ≡ feeds h vs r v e → f ≡ true → e < length h.edges.now →
-      b ≡ body_met_lem n has h a (t - r.delay) (get_or h.edges.now e d).from r.body → b ≡ false → y' ≡ min (y + 1) 65535 → Tallied (e + 1) y' x
-  unfolding Tallied meets_body
-  tallied_unmet e y y' x f b d w is yes' l met no' up =
-      let on : feeds h vs r v e ≡ true = sym is ∙ yes' in (
-        count_yes (feeds h vs r v) e y y' w.0 on up,
-        count_no both e x w.1 (rw on (at-get_or false (λ edge. body_met_lem n has h a (t - r.delay) edge.from r.body) h.edges.now e d l ∙ (sym met ∙ no'))),
-      )
+    body : meets_body n has h a (t - r.delay) r.body e ≡ body_met_lem n has h a (t - r.delay) (get_or h.edges.now e d).from r.body
+    unfolding meets_body
+    body = at-get_or false (λ edge. body_met_lem n has h a (t - r.delay) edge.from r.body) h.edges.now e d lt
 
-  pub tallied_met : (e y y' x x' : ℕ) (f b : Bool) (d : Edge) → Tallied e y x → f ≡ feeds h vs r v e → f ≡ true → e < length h.edges.now →
-      b ≡ body_met_lem n has h a (t - r.delay) (get_or h.edges.now e d).from r.body → b ≡ true → y' ≡ min (y + 1) 65535 → x' ≡ min (x + 1) 65535 → Tallied (e + 1) y' x'
-  unfolding Tallied meets_body
-  tallied_met e y y' x x' f b d w is yes' l met on' up upx =
-      let on : feeds h vs r v e ≡ true = sym is ∙ yes' in (
-        count_yes (feeds h vs r v) e y y' w.0 on up,
-        count_yes both e x x' w.1 (rw on (at-get_or false (λ edge. body_met_lem n has h a (t - r.delay) edge.from r.body) h.edges.now e d l ∙ (sym met ∙ on'))) upx,
-      )
+    pub tallied_skip : f ≡ false → Tallied (e + 1) count
+    unfolding Tallied
+    tallied_skip no' = (count_no (feeds h vs r v) e _ so_far.0 (edge_fed ∙ no'), count_no both e _ so_far.1 (rw (edge_fed, no')))
+
+    module _ (yes' : f ≡ true) (b : Bool) (met : b ≡ body_met_lem n has h a (t - r.delay) (get_or h.edges.now e d).from r.body) (y : ℕ) (up : y ≡ min (count.eligible + 1) 65535) where
+      pub tallied_unmet : b ≡ false → Tallied (e + 1) (record { eligible = y; qualifying = count.qualifying })
+      unfolding Tallied
+      tallied_unmet no' = (count_yes (feeds h vs r v) e _ y so_far.0 (edge_fed ∙ yes') up, count_no both e _ so_far.1 (rw (edge_fed, yes') (body ∙ (sym met ∙ no'))))
+
+      pub tallied_met : b ≡ true → (x : ℕ) → x ≡ min (count.qualifying + 1) 65535 → Tallied (e + 1) (record { eligible = y; qualifying = x })
+      unfolding Tallied
+      tallied_met on x upx = (count_yes (feeds h vs r v) e _ y so_far.0 (edge_fed ∙ yes') up, count_yes both e _ x so_far.1 (rw (edge_fed, yes') (body ∙ (sym met ∙ on))) upx)
 
 read_again : {A : Type 0} (ys : List A) (i : ℕ) (y : A) → i < length ys → get_or ys i y ≡ get_or ys i (get_or ys i y)
 read_again [] i y l = refl
@@ -161,9 +142,10 @@ module _ {S : Type 0} (n : ℕ) (has : S → Points) (h : House S) (ready : Coun
         ∙ sym (qualified_by_edges n has h ready.graph a r t v ∙ counted_edges (λ u. holds n has h r.source u && body_met_lem n has h a (t - r.delay) u r.body))
 
     -- so the tally of all edges counts the nodes
-    pub tallied_all : (e y x : ℕ) → e ≡ length h.edges.now → Tallied n has h a vs r t v e y x → (y ≡ eligibles n has h r v) × (x ≡ qualified n has h a r t v)
+    pub tallied_all : (e : ℕ) (count : Count) → length h.edges.now ≤ e → e ≤ length h.edges.now → Tallied n has h a vs r t v e count → (count.eligible ≡ eligibles n has h r v) × (count.qualifying ≡ qualified n has h a r t v)
     unfolding Tallied
-    tallied_all e y x end w =
-        let ys : y ≡ min (count_below (length h.edges.now) (feeds h vs r v)) 65535 = rw end at w.0 in
-        let xs : x ≡ min (count_below (length h.edges.now) (both n has h a vs r t v)) 65535 = rw end at w.1 in
+    tallied_all e count past in' w =
+        let end : e ≡ length h.edges.now = omega arith in
+        let ys : count.eligible ≡ min (count_below (length h.edges.now) (feeds h vs r v)) 65535 = rw end at w.0 in
+        let xs : count.qualifying ≡ min (count_below (length h.edges.now) (both n has h a vs r t v)) 65535 = rw end at w.1 in
         (omega (arith, ys, eligible_is, eligibles_le n has h r v, ready.few_nodes), omega (arith, xs, qualified_is, qualified_le n has h a r t v, eligibles_le n has h r v, ready.few_nodes))

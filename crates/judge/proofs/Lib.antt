@@ -1,3 +1,3 @@
 mod TableReads
 mod Verdict
-mod Feeding
+pub mod Feeding

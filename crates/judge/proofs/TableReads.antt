@@ -1,33 +1,49 @@
 -- What reads of tables and cells come to. Assumes nothing.
-use Rattle.std.proofs.Common.{◌≡◌, ℕ, ◌<◌, ◌≤◌, Bool, true, false, not, ◌&&◌, List, length, get_or, sym, refl, ◌∙◌}
+use Rattle.std.proofs.Common.{◌≡◌, ℕ, ◌<◌, ◌≤◌, Bool, true, false, not, ◌&&◌, List, get_or, Some, None, Option, unwrap_or, Bor, sym, refl, ◌∙◌, zero-add}
+use Rattle.std.specs.Prelude.{option_map, option_copied}
+use Rattle.std.specs.Slice.{IsItemAt}
 use Rattle.std.proofs.lemmas.Bool.{true≢false, lt-ltb, le-ltb, cond-true, cond-false}
-use Rattle.points.specs.Points.{Points, Same, within, void}
-use Rattle.points.proofs.Decided.{each_from, implies_from, same_test}
-use Rattle.points.proofs.Tabled.{at_read, at-get_or, at_else}
+use Rattle.std.specs.List.{list_all, range_with_len}
+use Rattle.std.proofs.lemmas.List.FromFn.{length-range_with_len, get_or-range_with_len}
+use Rattle.std.proofs.lemmas.List.Recursion.{and_at, and_from_places}
+use Rattle.points.specs.Points.{Points, Same, within, void, each_below}
+use Rattle.points.proofs.Decided.{each_use, each_from, implies_from, same_test}
+use Rattle.points.specs.Tables.{at_place}
+use Rattle.points.proofs.Tabled.{at_read, at_else}
 use Rattle.house.specs.declared.tables.House.{House}
 use Rattle.house.specs.declared.tables.Test.{Test}
 use Rattle.house.specs.declared.tables.Sizes.{Sizes}
 use Rattle.house.specs.Cells.{inside, place}
 use Rattle.fitting.specs.Course.{Course, course_of}
-use Rattle.fitting.specs.Tests.{meets, fixed_at, seen, test_met_lem}
-use Rattle.fitting.specs.Conditions.{fixed_met_lem}
+use Rattle.fitting.specs.Tests.{meets, fixed_at, seen}
 use Rattle.fitting.proofs.Narrow.{meets_mono}
-use Rattle.judge.specs.Judged.{bound_at}
+use Rattle.judge.specs.Judged.{points_of, bound_at}
+
+-- what `get` gives of a table decides what a test says of that place
+pub at_got : {A : Type 0} (d : Bool) (f : A → Bool) (xs : List A) (i : ℕ) (r : Option (Bor A)) → IsItemAt xs i r → at_place d f xs i ≡ unwrap_or (option_map (λ x. f x.now) r) d
+at_got d f xs i None got = at_else d f xs i got.3
+at_got d f xs i (Some x) got = at_read d f xs i x.now got.3.0 got.1
+
+-- a test of every number below a limit
+pub all_below : (n : ℕ) (f : ℕ → Bool) → list_all f (range_with_len 0 n) ≡ each_below n f
+all_below n f =
+    same_test _ _
+    (λ e. each_from n f (λ k l. rw (read k l) at (and_at (list_all f) f refl (λ _ _. refl) (range_with_len 0 n) k 0 (rw length-range_with_len l) e)))
+    (λ e. and_from_places (list_all f) f refl (λ _ _. refl) (range_with_len 0 n) 0 (λ k l. let lt : k < n = rw length-range_with_len at l in rw (read k lt) (each_use n f e k lt)))
+  where
+    read : (k : ℕ) → k < n → get_or (range_with_len 0 n) k 0 ≡ k
+    read k l = get_or-range_with_len 0 n k 0 l ∙ zero-add k
 
 none_within : (n : ℕ) (bound : Points) → within n (λ p. false) bound ≡ true
 unfolding within
 none_within n bound = each_from n _ (λ p l. implies_from false (bound p) (λ e. absurd (true≢false (sym e))))
 
 module _ {S : Type 0} (has : S → Points) where
-  -- a bound that was read
-  pub bound_read : (xs : List S) (i : ℕ) (x : S) → i < length xs → x ≡ get_or xs i x → Same (has x) (bound_at has xs i)
+  -- the points of what `get` gives of a list of bounds
+  pub bound_got : (xs : List S) (i : ℕ) (r : Option (Bor S)) → IsItemAt xs i r → Same (points_of has (option_copied r)) (bound_at has xs i)
   unfolding bound_at
-  bound_read xs i x l is p = sym (at_read false (λ b. has b p) xs i x l is)
-
-  -- and a place with no bound
-  pub bound_none : (xs : List S) (i : ℕ) → length xs ≤ i → Same (λ p. false) (bound_at has xs i)
-  unfolding bound_at
-  bound_none xs i l p = sym (at_else false (λ b. has b p) xs i l)
+  bound_got xs i None got p = sym (at_got false (λ b. has b p) xs i None got)
+  bound_got xs i (Some x) got p = sym (at_got false (λ b. has b p) xs i (Some x) got)
 
   module _ (h : House S) (a : Course) where
     -- a fixed label looks at the fixed bound
@@ -62,26 +78,7 @@ meets_none n bound = sym (right (not (void n bound)) (within n (λ p. false) bou
     right true y e = e
     right false y e = refl
 
-module _ {S : Type 0} (n : ℕ) (has : S → Points) (h : House S) where
-  -- a test is met by what is seen of its label
-  pub test_met_read : (a : Course) (t c i : ℕ) (d : Test S) (cell : Points) (r : Bool) → i < length h.tests.now →
-      Same cell (seen has h a t c (get_or h.tests.now i d).label) → r ≡ meets n cell (has (get_or h.tests.now i d).bound) → r ≡ test_met_lem n has h a t c i
-  unfolding test_met_lem
-  test_met_read a t c i d cell r l e m =
-      m ∙ (meets_same n _ _ _ e ∙ sym (at-get_or false (λ x. meets n (seen has h a t c x.label) (has x.bound)) h.tests.now i d l))
-
-  -- and a test of a condition by the fixed bound
-  pub fixed_met_read : (c i : ℕ) (d : Test S) (cell : Points) (r : Bool) → i < length h.tests.now →
-      Same cell (fixed_at has h c (get_or h.tests.now i d).label) → r ≡ meets n cell (has (get_or h.tests.now i d).bound) → r ≡ fixed_met_lem n has h c i
-  unfolding fixed_met_lem
-  fixed_met_read c i d cell r l e m =
-      m ∙ (meets_same n _ _ _ e ∙ sym (at-get_or false (λ x. meets n (fixed_at has h c x.label) (has x.bound)) h.tests.now i d l))
-
-  -- a test that is not there is not met
-  pub test_none : (a : Course) (t c i : ℕ) → length h.tests.now ≤ i → false ≡ test_met_lem n has h a t c i
-  unfolding test_met_lem
-  test_none a t c i l = sym (at_else false (λ x. meets n (seen has h a t c x.label) (has x.bound)) h.tests.now i l)
-
-  pub fixed_none : (c i : ℕ) → length h.tests.now ≤ i → false ≡ fixed_met_lem n has h c i
-  unfolding fixed_met_lem
-  fixed_none c i l = sym (at_else false (λ x. meets n (fixed_at has h c x.label) (has x.bound)) h.tests.now i l)
+-- a test is met by what is seen of its label
+pub met_read : {S : Type 0} (n : ℕ) (has : S → Points) (tests : List (Test S)) (look : ℕ → Points) (i : ℕ) (d : Bor (Test S)) (cell : Points) (r : Bool) → IsItemAt tests i (Some d) →
+    Same cell (look d.now.label) → r ≡ meets n cell (has d.now.bound) → r ≡ at_place false (λ test. meets n (look test.label) (has test.bound)) tests i
+met_read n has tests look i d cell r got e m = m ∙ (meets_same n _ _ _ e ∙ sym (at_got false (λ test. meets n (look test.label) (has test.bound)) tests i (Some d) got))

@@ -1,14 +1,14 @@
 // The neighbours that press on a node.
-ghost use Rattle.std.specs.Prelude.{◌≡◌};
+ghost use Rattle.std.specs.Prelude.{◌≡◌, ◌&&◌, ◌==◌};
 ghost use Rattle.fitting.specs.Course.{course_of};
-ghost use Rattle.judge.specs.Judged.{feeds, Counted};
+ghost use Rattle.judge.specs.Judged.{held_on_lem, Counted};
 
-use super::{Verdicts, body_met, held_on};
-use house::{House, Rule};
+use super::{Spot, Verdicts, body_met, held_on};
+use house::{Edge, House, Rule};
 use scale::Scale;
 
 // How many neighbours are eligible, and how many of these qualify.
-#[derive(Clone, Copy)]
+#[derive(Clone, Copy, PartialEq, Eq, Debug)]
 pub struct Count {
     pub eligible: u16,
     pub qualifying: u16,
@@ -21,48 +21,36 @@ pub fn neighbours<S: Scale>(
     verdicts: &[Verdicts],
     cells: &[S],
     rule: Rule,
-    hour: u8,
-    node: u16,
+    node: Spot,
 ) -> Count
-    ensures { Counted S.Scale.size S.Scale.has house.now verdicts.now (course_of house.now.sizes S.Scale.has cells.now) rule hour node result }
+    ensures { Counted S.Scale.size S.Scale.has house.now verdicts.now (course_of house.now.sizes S.Scale.has cells.now) rule node.hour node.component result }
 {
-    let past = hour.saturating_sub(rule.delay);
-    let mut eligible = 0u16;
-    let mut qualifying = 0u16;
-    for e in 0..house.edges.len() {
-        if edge_feeds(house, verdicts, rule, node, e) {
-            eligible = eligible.saturating_add(1);
-            if body_met(house, cells, past, house.edges[e].from, rule.body) {
-                qualifying = qualifying.saturating_add(1);
+    let past = node.hour.saturating_sub(rule.delay);
+    let mut count = Count {
+        eligible: 0,
+        qualifying: 0,
+    };
+    for (e, edge) in house.edges.iter().enumerate() {
+        let along = house.sizes.nodes as usize + e;
+        if feeds(verdicts, rule, node.component, *edge, along) {
+            count.eligible = count.eligible.saturating_add(1);
+            let neighbour = Spot {
+                hour: past,
+                component: edge.from,
+            };
+            if body_met(house, cells, neighbour, rule.body) {
+                count.qualifying = count.qualifying.saturating_add(1);
             }
         }
     }
-    Count {
-        eligible,
-        qualifying,
-    }
+    count
 }
 
-// Whether an edge leads to the node, and its node and it meet the rule's conditions.
-fn edge_feeds<S: Scale>(
-    house: &House<S>,
-    verdicts: &[Verdicts],
-    rule: Rule,
-    node: u16,
-    e: usize,
-) -> bool
-    ensures { result ≡ feeds house.now verdicts.now rule node e }
+// Whether an edge leads to the node, and its node and it, the component `along`, meet the rule's conditions.
+fn feeds(verdicts: &[Verdicts], rule: Rule, node: u16, edge: Edge, along: usize) -> bool
+    ensures { result ≡ ((edge.to == node) && held_on_lem verdicts.now rule.source edge.from && held_on_lem verdicts.now rule.along along) }
 {
-    if e >= house.edges.len() {
-        return false;
-    }
-    let edge = house.edges[e];
-    let along = house.sizes.nodes as usize + e;
-    if edge.to != node {
-        return false;
-    }
-    if !held_on(verdicts, rule.source, edge.from as usize) {
-        return false;
-    }
-    held_on(verdicts, rule.along, along)
+    edge.to == node
+        && held_on(verdicts, rule.source, edge.from as usize)
+        && held_on(verdicts, rule.along, along)
 }

@@ -8,7 +8,7 @@ use house::{Condition, House, Kind};
 use scale::Scale;
 
 // What the first 64 conditions of a house say on one component.
-#[derive(Clone, Copy)]
+#[derive(Clone, Copy, PartialEq, Eq, Debug)]
 pub struct Verdicts {
     said: [bool; 64],
 }
@@ -19,8 +19,8 @@ impl Verdicts {
         ensures { Judges S.Scale.size S.Scale.has house.now component result }
     {
         let mut said = [false; 64];
-        for i in 0..house.conditions.len().min(64) {
-            let answer = judged(house, component, &said, house.conditions[i]);
+        for (i, condition) in house.conditions.iter().take(64).enumerate() {
+            let answer = judged(house, component, &said, *condition);
             said[i] = answer;
         }
         Verdicts { said }
@@ -31,10 +31,7 @@ impl Verdicts {
     pub fn holds(&self, condition: Option<u8>) -> bool
         ensures { result ≡ held_by condition self.now }
     {
-        match condition {
-            Some(number) => known(&self.said, number),
-            None => true,
-        }
+        condition.is_none_or(|number| known(&self.said, number))
     }
 }
 
@@ -42,14 +39,16 @@ impl Verdicts {
 pub fn held_on(verdicts: &[Verdicts], condition: Option<u8>, component: usize) -> bool
     ensures { result ≡ held_on_lem verdicts.now condition component }
 {
-    component < verdicts.len() && verdicts[component].holds(condition)
+    verdicts
+        .get(component)
+        .is_some_and(|found| found.holds(condition))
 }
 
 // What is known of a condition so far.
 fn known(said: &[bool], condition: u8) -> bool
     ensures { result ≡ slice_index_or said.now condition false }
 {
-    (condition as usize) < said.len() && said[condition as usize]
+    said.get(condition as usize).copied().unwrap_or(false)
 }
 
 // What a condition says on a component, where `said` is what the earlier ones say.
@@ -71,9 +70,8 @@ fn judged<S: Scale>(house: &House<S>, component: u16, said: &[bool], condition: 
 fn fixed_met<S: Scale>(house: &House<S>, component: u16, i: usize) -> bool
     ensures { result ≡ fixed_met_lem S.Scale.size S.Scale.has house.now component i }
 {
-    if i >= house.tests.len() {
+    let Some(test) = house.tests.get(i) else {
         return false;
-    }
-    let test = house.tests[i];
+    };
     met_by(fixed_bound(house, component, test.label), test.bound)
 }

@@ -1,51 +1,29 @@
 -- One write after another. Assumes nothing.
-use Rattle.std.proofs.Common.{◌≡◌, ℕ, zero, suc, ◌+◌, ◌-◌, ◌<◌, ◌≤◌, Bool, true, false, cond, not, ◌&&◌, ◌||◌, eqb, List, [], ◌∷◌, length, get_or, take, sym, refl, ap, ◌∙◌, add-one, arith}
-use Rattle.std.proofs.lemmas.Bool.{and_parts, and_from, and_left, eq-eqb, ne_eqb, cond-true, cond-false}
-use Rattle.std.proofs.lemmas.Bool.Decides.{nat_tests}
+use Rattle.std.proofs.Common.{◌≡◌, ℕ, ◌+◌, ◌-◌, ◌<◌, Bool, true, false, cond, not, ◌&&◌, ◌||◌, eqb, List, length, get_or, take, Some, None, sym, refl, ap, ◌∙◌}
+use Rattle.std.proofs.lemmas.Bool.{and_parts, and_from, and_left, both_ways, eqb-true, eq-eqb, ne_eqb, cond-true, cond-false}
+use Rattle.std.proofs.lemmas.List.{take_more}
+use Rattle.std.proofs.lemmas.List.Recursion.{and_push, or_push}
 use Rattle.points.specs.Points.{Points, Among, Same, implies}
 use Rattle.points.specs.Tables.{all_pass, one_passes}
 use Rattle.points.proofs.Decided.{implies_use, implies_from}
 use Rattle.house.specs.declared.tables.Sizes.{Sizes}
+use Rattle.house.specs.declared.tables.Cell.{Cell}
 use Rattle.house.specs.declared.tables.Fact.{Fact}
 use Rattle.house.specs.Cells.{covers}
 use Rattle.fitting.specs.Course.{Course, Within, loosest}
 use Rattle.fitting.specs.Step.{fact_grants}
-use Rattle.writes.specs.Written.{Narrowed, on_cell, at_hour, facts_grant, Freed, one_cell, covered, Repeats}
+use Rattle.writes.specs.Written.{Narrowed, on_cell, at_hour, facts_grant, Freed, one_cell, covered, Repeats, Covered}
 
 -- one record more of a table
 pub all_more : {A : Type 0} (f : A → Bool) (xs : List A) (i : ℕ) (x : A) → i < length xs → x ≡ get_or xs i x → all_pass f (take (i + 1) xs) ≡ (all_pass f (take i xs) && f x)
 unfolding all_pass
-all_more {A = A} f xs i x lt is = rw add-one (more xs i lt is)
-  where
-    and_assoc : (a b c : Bool) → (a && (b && c)) ≡ (a && b && c)
-    and_assoc true b c = refl
-    and_assoc false b c = refl
-
-    and_true : (a : Bool) → (a && true) ≡ a
-    and_true true = refl
-    and_true false = refl
-
-    more : (ys : List A) (k : ℕ) → k < length ys → x ≡ get_or ys k x → all_pass f (take (suc k) ys) ≡ (all_pass f (take k ys) && f x)
-    more [] k l q = absurd (omega arith)
-    more (y ∷ ys) zero l q = and_true (f y) ∙ ap f (sym q)
-    more (y ∷ ys) (suc k) l q = ap (λ (b : Bool). f y && b) (more ys k (omega arith) q) ∙ and_assoc (f y) _ (f x)
+all_more f xs i x lt is =
+    ap (all_pass f) (take_more xs i x lt) ∙ (and_push (all_pass f) f refl (λ _ _. refl) (take i xs) (get_or xs i x) ∙ ap (λ y. all_pass f (take i xs) && f y) (sym is))
 
 pub one_more : {A : Type 0} (f : A → Bool) (xs : List A) (i : ℕ) (x : A) → i < length xs → x ≡ get_or xs i x → one_passes f (take (i + 1) xs) ≡ (one_passes f (take i xs) || f x)
 unfolding one_passes
-one_more {A = A} f xs i x lt is = rw add-one (more xs i lt is)
-  where
-    or_assoc : (a b c : Bool) → (a || (b || c)) ≡ (a || b || c)
-    or_assoc true b c = refl
-    or_assoc false b c = refl
-
-    or_false : (a : Bool) → (a || false) ≡ a
-    or_false true = refl
-    or_false false = refl
-
-    more : (ys : List A) (k : ℕ) → k < length ys → x ≡ get_or ys k x → one_passes f (take (suc k) ys) ≡ (one_passes f (take k ys) || f x)
-    more [] k l q = absurd (omega arith)
-    more (y ∷ ys) zero l q = or_false (f y) ∙ ap f (sym q)
-    more (y ∷ ys) (suc k) l q = ap (λ (b : Bool). f y || b) (more ys k (omega arith) q) ∙ or_assoc (f y) _ (f x)
+one_more f xs i x lt is =
+    ap (one_passes f) (take_more xs i x lt) ∙ (or_push (one_passes f) f refl (λ _ _. refl) (take i xs) (get_or xs i x) ∙ ap (λ y. one_passes f (take i xs) || f y) (sym is))
 
 -- narrowing that leaves all, and narrowing twice
 pub narrowed_none : (a g : Course) → ((t c l p : ℕ) → g t c l p ≡ true) → Narrowed a g a
@@ -91,17 +69,22 @@ hour_none hour a g all = narrowed_none a (at_hour hour g) (λ t c l p. rw (all t
 
 -- facts
 module _ {S : Type 0} (has : S → Points) where
-  pub fact_on : (f : Fact S) (hour : ℕ) (a b : Course) → f.from ≤ hour → hour ≤ f.to → Narrowed a (on_cell hour f.component f.label (has f.bound)) b →
+  pub fact_on : (f : Fact S) (hour : ℕ) (x : Cell) (a b : Course) → Covered f hour (Some x) → Narrowed a (on_cell x.hour x.component x.label (has f.bound)) b →
       Narrowed a (at_hour hour (λ t c l p. fact_grants has t c l p f)) b
-  unfolding at_hour on_cell fact_grants covers implies
-  fact_on f hour a b low high n = narrowed_as a b (on_cell hour f.component f.label (has f.bound)) (at_hour hour (λ t c l p. fact_grants has t c l p f)) n (λ t c l p. grind (arith, nat_tests))
+  unfolding at_hour on_cell fact_grants one_cell implies
+  fact_on f hour x a b on n =
+      narrowed_as a b (on_cell x.hour x.component x.label (has f.bound)) (at_hour hour (λ t c l p. fact_grants has t c l p f)) n
+      (λ t c l p. rw on.0 (pick (eqb t hour) _ (covers t c l f) (has f.bound p) (λ e. rw (eqb-true t hour e) (on.1 c l))))
+    where
+      pick : (w y z b' : Bool) → (w ≡ true → z ≡ y) → implies (w && y) b' ≡ implies w (implies z b')
+      pick true y z b' k = rw (k refl)
+      pick false y z b' k = refl
 
-  pub fact_off : (f : Fact S) (hour : ℕ) (a : Course) → (hour < f.from → Narrowed a (at_hour hour (λ t c l p. fact_grants has t c l p f)) a) × (f.to < hour → Narrowed a (at_hour hour (λ t c l p. fact_grants has t c l p f)) a)
-  unfolding at_hour fact_grants covers implies
-  fact_off f hour a = (
-    (λ lt. narrowed_none a (at_hour hour (λ t c l p. fact_grants has t c l p f)) (λ t c l p. grind (arith, nat_tests))),
-    λ lt. narrowed_none a (at_hour hour (λ t c l p. fact_grants has t c l p f)) (λ t c l p. grind (arith, nat_tests)),
-  )
+  pub fact_off : (f : Fact S) (hour : ℕ) (a : Course) → Covered f hour None → Narrowed a (at_hour hour (λ t c l p. fact_grants has t c l p f)) a
+  unfolding at_hour fact_grants
+  fact_off f hour a off =
+      narrowed_none a (at_hour hour (λ t c l p. fact_grants has t c l p f))
+      (λ t c l p. implies_from (eqb t hour) _ (λ e. implies_from (covers t c l f) (has f.bound p) (λ q. absurd (both_ways _ (rw (eqb-true t hour e) (off c l)) q))))
 
   pub facts_none : (hour : ℕ) (filed : List (Fact S)) (a : Course) → Narrowed a (at_hour hour (facts_grant has (take 0 filed))) a
   unfolding facts_grant all_pass
@@ -141,16 +124,8 @@ freed_then s n hour f g h a b c ab bc e t u l p =
     pick false x y z v = refl
 
 module _ {S : Type 0} (s : Sizes) (n : ℕ) where
-  pub fact_frees : (f : Fact S) (hour : ℕ) (a b : Course) → f.from ≤ hour → hour ≤ f.to → Freed s n hour (one_cell f.component f.label) a b → Freed s n hour (λ c l. covers hour c l f) a b
-  unfolding covers one_cell
-  fact_frees f hour a b low high e = freed_as s n hour (one_cell f.component f.label) (λ c l. covers hour c l f) a b e (λ c l. grind (arith, nat_tests))
-
-  pub fact_keeps : (f : Fact S) (hour : ℕ) (a : Course) → (hour < f.from → Freed s n hour (λ c l. covers hour c l f) a a) × (f.to < hour → Freed s n hour (λ c l. covers hour c l f) a a)
-  unfolding covers
-  fact_keeps f hour a = (
-    (λ lt. freed_none s n hour (λ c l. covers hour c l f) a (λ c l. grind (arith, nat_tests))),
-    λ lt. freed_none s n hour (λ c l. covers hour c l f) a (λ c l. grind (arith, nat_tests)),
-  )
+  pub fact_frees : (f : Fact S) (hour : ℕ) (x : Cell) (a b : Course) → Covered f hour (Some x) → Freed s n x.hour (one_cell x.component x.label) a b → Freed s n hour (λ c l. covers hour c l f) a b
+  fact_frees f hour x a b on e = freed_as s n hour (one_cell x.component x.label) (λ c l. covers hour c l f) a b (rw on.0 at e) (λ c l. sym (on.1 c l))
 
   pub covered_none : (hour : ℕ) (filed : List (Fact S)) (a : Course) → Freed s n hour (covered (take 0 filed) hour) a a
   unfolding covered one_passes

@@ -8,7 +8,7 @@ loop-hour-init g c = λ _ _. settled_none _ _ _ _ _ _
 
 pub loop-hour-preserved : goal.loop-hour-preserved
 loop-hour-preserved g c =
-    λ ready whole. c.settle_hour.ensures ready (c.judge_all.ensures (omega (arith, ready.few_components)) (omega (arith, ready.few_components))) (c.loop-hour.auto.course ∙ whole) c.loop-hour-test.true (c.loop-hour.invariant ready whole)
+    λ ready whole. (rw c.of-judged.ensures at c.settle_hour.ensures) ready (c.loop-hour.auto.course ∙ whole) c.loop-hour-test.true (c.loop-hour.invariant ready whole)
 
 pub returns : goal.returns
 returns g c =
@@ -23,6 +23,6 @@ returns-2 g c =
     record {
       settled = λ accepted whole. let ready = accepted_ready g.S.Scale.size g.S.Scale.has c.args.house.now _ accepted in
           settled_all g.S.Scale.size g.S.Scale.has c.args.house.now _ _ (c.loop-hour.hour + 1) _ (omega arith) (cells_inside _ _ _ g.met.S.Scale.inside _)
-          (c.settle_hour.ensures ready (c.judge_all.ensures (omega (arith, ready.few_components)) (omega (arith, ready.few_components))) (c.loop-hour.auto.course ∙ whole) c.loop-hour-test.true (c.loop-hour.invariant ready whole));
+          ((rw c.of-judged.ensures at c.settle_hour.ensures) ready (c.loop-hour.auto.course ∙ whole) c.loop-hour-test.true (c.loop-hour.invariant ready whole));
       length = c.settle_hour.auto.cells ∙ c.loop-hour.auto.course;
     }

@@ -6,5 +6,6 @@ use Rattle.engine.proofs.settle_hours.Given as goal
 
 abbrev pub invariant-loop-hour : goal.invariant-loop-hour
 invariant-loop-hour g l =
-    Ready g.S.Scale.size g.S.Scale.has l.house (g.B.Book.formulas l.book) → Whole l.house.sizes l.initial.course →
-    SettledBefore g.S.Scale.size g.S.Scale.has l.house (g.B.Book.says l.book) l.facts l.hour (course_of l.house.sizes g.S.Scale.has l.course)
+    let h = l.fn.house in
+    Ready g.S.Scale.size g.S.Scale.has h (g.B.Book.formulas l.book) → Whole h.sizes l.initial.course →
+    SettledBefore g.S.Scale.size g.S.Scale.has h (g.B.Book.says l.book) l.facts l.hour (course_of h.sizes g.S.Scale.has l.course)

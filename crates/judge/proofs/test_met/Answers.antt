@@ -1,9 +1,12 @@
-use Rattle.std.proofs.Common.{rules}
-use Rattle.judge.proofs.TableReads.{test_met_read, test_none}
+use Rattle.std.proofs.Common.{sym, false, None}
+use Rattle.fitting.specs.Tests.{test_met_lem}
+use Rattle.judge.proofs.TableReads.{at_got, met_read}
 use Rattle.judge.proofs.test_met.Goals as goal
 
-pub returns-then-i-house : goal.returns-then-i-house
-returns-then-i-house g c = search (rules, test_none)
+pub returns-in_default : goal.returns-in_default
+unfolding test_met_lem
+returns-in_default g c = sym (at_got false _ c.args.house.now.tests.now c.args.i None c.in_default.ensures.lookup)
 
 pub returns : goal.returns
-returns g c = test_met_read _ _ _ _ _ _ _ c.index-house-i.result _ _ (search rules) c.seen-cell.ensures c.met_by.ensures
+unfolding test_met_lem
+returns g c = met_read _ _ _ _ _ c.in-Some.test _ _ c.in-Some.ensures.lookup c.seen.ensures c.met_by.ensures

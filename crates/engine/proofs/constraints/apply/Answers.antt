@@ -1,27 +1,27 @@
-use Rattle.std.proofs.Common.{get_or, sym}
-use Rattle.engine.proofs.Held.{read_again}
+use Rattle.std.proofs.Common.{sym}
 use Rattle.engine.proofs.Constraining.{absent_applied, unmet_applied, absent_still, unmet_still, met_applied, met_fires}
 use Rattle.engine.proofs.constraints.apply.Goals as goal
-use Rattle.engine.proofs.constraints.apply.Goals.{then-at-house-via-then-at-house, then-at-house-via-else-at-house+then-not-body_met}
 
-pub returns-then-at-house : goal.returns-then-at-house
-returns-then-at-house g c =
-    elim c.then-at-house.branch [
-      | then-at-house-via-then-at-house w ↦ record {
-        narrowed = absent_applied g.S.Scale.size g.S.Scale.has c.args.house.now _ c.args.hour c.args.component c.args.constraint w.if-at-house.true;
-        tells = absent_still g.S.Scale.size g.S.Scale.has c.args.house.now _ c.args.hour c.args.component c.args.constraint w.if-at-house.true;
-      }
-      | then-at-house-via-else-at-house+then-not-body_met w ↦ record {
-        narrowed = unmet_applied g.S.Scale.size g.S.Scale.has c.args.house.now _ c.args.hour c.args.component c.args.constraint (sym w.if-not-body_met.ensures);
-        tells = unmet_still g.S.Scale.size g.S.Scale.has c.args.house.now _ c.args.hour c.args.component c.args.constraint (sym w.if-not-body_met.ensures);
-      }
-    ]
+pub returns-in_default : goal.returns-in_default
+returns-in_default g c =
+    record {
+      narrowed = absent_applied g.S.Scale.size g.S.Scale.has c.args.house.now _ c.args.spot.hour c.args.spot.component c.args.constraint c.in_default.ensures.lookup.3;
+      tells = absent_still g.S.Scale.size g.S.Scale.has c.args.house.now _ c.args.spot.hour c.args.spot.component c.args.constraint c.in_default.ensures.lookup.3;
+    }
+
+pub returns-then-not-body_met : goal.returns-then-not-body_met
+returns-then-not-body_met g c =
+    record {
+      narrowed = unmet_applied g.S.Scale.size g.S.Scale.has c.args.house.now _ c.args.spot.hour c.args.spot.component c.args.constraint (sym c.if-not-body_met.ensures);
+      tells = unmet_still g.S.Scale.size g.S.Scale.has c.args.house.now _ c.args.spot.hour c.args.spot.component c.args.constraint (sym c.if-not-body_met.ensures);
+    }
 
 pub returns : goal.returns
 returns g c =
-    let head = get_or c.args.house.now.tests.now c.args.constraint.head c.index-house-at.result in
-    let is = read_again c.args.house.now.tests.now c.args.constraint.head c.index-house-at.result c.if-at-house.false in
+    let found = c.in-Some.ensures.lookup in
     record {
-      narrowed = met_applied g.S.Scale.size g.S.Scale.has c.args.house.now _ _ c.args.hour c.args.component c.args.constraint head c.if-at-house.false is (sym c.if-not-body_met.ensures) c.tighten.ensures.narrowed;
-      tells = met_fires g.S.Scale.size g.S.Scale.has c.args.house.now _ c.args.hour c.args.component c.args.constraint head c.tighten.result c.if-at-house.false is (sym c.if-not-body_met.ensures) c.tighten.ensures.tells;
+      narrowed = met_applied g.S.Scale.size g.S.Scale.has c.args.house.now _ _ c.args.spot.hour c.args.spot.component c.args.constraint c.in-Some.head.now found.3.0 found.1 (sym c.if-not-body_met.ensures)
+          (rw c.cell.ensures at c.tighten.ensures.narrowed);
+      tells = met_fires g.S.Scale.size g.S.Scale.has c.args.house.now _ c.args.spot.hour c.args.spot.component c.args.constraint c.in-Some.head.now c.tighten.result found.3.0 found.1 (sym c.if-not-body_met.ensures)
+          (rw c.cell.ensures at c.tighten.ensures.tells);
     }

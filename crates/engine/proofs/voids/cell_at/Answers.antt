@@ -1,20 +1,23 @@
-use Rattle.std.proofs.Common.{◌≡◌, ℕ, ◌/◌, ◌%◌, ◌<◌, ap, arith}
+use Rattle.std.proofs.Common.{◌≡◌, ℕ, ◌/◌, ◌%◌, ◌<◌, Some, Ok, Err, Result, ap, ◌∙◌, arith}
+use Rattle.std.specs.Result.{OkIff, result_ok}
+use Rattle.std.proofs.lemmas.Option.{same_Some}
 use Rattle.house.specs.Cells.{cell_count}
-use Rattle.house.proofs.Places.{cell_at, hour_at, component_at}
+use Rattle.house.proofs.Places.{cell_at, component_at}
 use Rattle.engine.proofs.VoidCells.{cell_found}
 use Rattle.engine.proofs.voids.cell_at.Goals as goal
 
-pub overflow_cast-result : goal.overflow_cast-result
-overflow_cast-result c =
-    let lt : c.args.at < cell_count c.args.sizes = omega arith in
-    let e : c.args.at / c.args.sizes.moving / c.components-2.result ≡ hour_at c.args.sizes c.args.at = ap (λ (w : ℕ). c.args.at / c.args.sizes.moving / w) c.components-2.ensures in
-    omega (arith, (cell_at c.args.sizes c.args.at lt).hour)
+-- what a conversion that fits gives
+fits : {P E : Type 0} {x y : ℕ} (r : Result ℕ E) → P → OkIff r P x → Some y ≡ result_ok r → y ≡ x
+fits (Ok z) p ok e = same_Some _ _ e ∙ ok.1
+fits (Err f) p never e = absurd (never p)
 
 pub returns : goal.returns
 returns c = λ few.
     let lt : c.args.at < cell_count c.args.sizes = omega arith in
     let at = cell_at c.args.sizes c.args.at lt in
+    let comp : c.args.at / c.args.sizes.moving % c.components.result ≡ component_at c.args.sizes c.args.at = ap (λ (w : ℕ). c.args.at / c.args.sizes.moving % w) c.components.ensures in
+    let small : c.args.at / c.args.sizes.moving % c.components.result < 65536 = omega (arith, at.component, comp, few.0) in
     cell_found c.args.sizes c.args.at _ lt
     (ap (λ (w : ℕ). c.args.at / c.args.sizes.moving / w) c.components-2.ensures)
-    (let e : c.args.at / c.args.sizes.moving % c.components.result ≡ component_at c.args.sizes c.args.at = ap (λ (w : ℕ). c.args.at / c.args.sizes.moving % w) c.components.ensures in omega (arith, at.component, few.0))
-    (omega (arith, at.moving, few.1))
+    (fits c.try_from.result small c.try_from.ensures c.in_ok-ok.ensures.value ∙ comp)
+    (omega (arith, at.moving, few.1, c.saturating_add.ensures))

@@ -1,19 +1,18 @@
-use Rattle.std.proofs.Common.{◌≡◌, length, arith}
-use Rattle.engine.proofs.VoidCells.{full_none, full_more, none_void, some_void}
+use Rattle.std.proofs.Common.{◌≡◌, true, false, rules, tests}
+use Rattle.std.proofs.lemmas.Iterator.{IsFirst-from_position, YieldsList-from_slice}
+use Rattle.points.specs.Points.{void}
+use Rattle.engine.proofs.VoidCells.{none_void, some_void}
 use Rattle.engine.proofs.voids.first_void.Goals as goal
 
-pub loop-at-init : goal.loop-at-init
-loop-at-init g c = full_none _ _ _
-
-pub loop-at-preserved : goal.loop-at-preserved
-loop-at-preserved g c = full_more _ _ c.args.course.now c.loop-at.at c.index-course-at.result c.index-course-at.is c.loop-at-test.true c.if-void.ensures c.loop-at.invariant
-
-pub returns-then-void : goal.returns-then-void
-returns-then-void g c =
-    λ few whole. some_void g.S.Scale.size g.S.Scale.has g.met.S.Scale.inside c.args.sizes c.args.course.now whole c.loop-at.at c.index-course-at.result c.cell_at.result
-    c.loop-at-test.true c.index-course-at.is c.if-void.ensures c.loop-at.invariant (c.cell_at.ensures few)
+pub returns-in_err-at : goal.returns-in_err-at
+returns-in_err-at g c = λ few whole.
+    let first = IsFirst-from_position _ _ c.position.result (λ x. void g.S.Scale.size (g.S.Scale.has x) ≡ true) (λ x. void g.S.Scale.size (g.S.Scale.has x) ≡ false) c.position.ensures.ran
+    (YieldsList-from_slice c.args.course.now cc) (λ x q k. search (rules, tests)) (λ x q k. search (rules, tests)) in
+    rw c.from_residual.ensures (none_void g.S.Scale.size g.S.Scale.has g.met.S.Scale.inside c.args.sizes c.args.course.now whole (rw c.in_err-at.was at first))
 
 pub returns : goal.returns
-returns g c =
-    λ _ whole. let e : c.loop-at.at ≡ length c.args.course.now = omega arith in
-    none_void g.S.Scale.size g.S.Scale.has g.met.S.Scale.inside c.args.sizes c.args.course.now whole (rw e at c.loop-at.invariant)
+returns g c = λ few whole.
+    let first = IsFirst-from_position _ _ c.position.result (λ x. void g.S.Scale.size (g.S.Scale.has x) ≡ true) (λ x. void g.S.Scale.size (g.S.Scale.has x) ≡ false) c.position.ensures.ran
+    (YieldsList-from_slice c.args.course.now cc) (λ x q k. search (rules, tests)) (λ x q k. search (rules, tests)) in
+    let found = rw c.in_ok-at.was at first in
+    some_void g.S.Scale.size g.S.Scale.has g.met.S.Scale.inside c.args.sizes c.args.course.now whole c.in_ok-at.at c.cell_at.result found.0 found.1 found.2 (c.cell_at.ensures few)

@@ -1,9 +1,12 @@
-use Rattle.std.proofs.Common.{rules}
-use Rattle.judge.proofs.TableReads.{fixed_met_read, fixed_none}
+use Rattle.std.proofs.Common.{sym, false, None}
+use Rattle.fitting.specs.Conditions.{fixed_met_lem}
+use Rattle.judge.proofs.TableReads.{at_got, met_read}
 use Rattle.judge.proofs.verdicts.fixed_met.Goals as goal
 
-pub returns-then-i-house : goal.returns-then-i-house
-returns-then-i-house g c = search (rules, fixed_none)
+pub returns-in_default : goal.returns-in_default
+unfolding fixed_met_lem
+returns-in_default g c = sym (at_got false _ c.args.house.now.tests.now c.args.i None c.in_default.ensures.lookup)
 
 pub returns : goal.returns
-returns g c = fixed_met_read _ _ _ _ _ c.index-house-i.result _ _ (search rules) c.fixed_bound.ensures c.met_by.ensures
+unfolding fixed_met_lem
+returns g c = met_read _ _ _ _ _ c.in-Some.test _ _ c.in-Some.ensures.lookup c.fixed_bound.ensures c.met_by.ensures

@@ -1,5 +1,5 @@
 use Rattle.engine.proofs.Judging.{JudgedBelow}
-use Rattle.engine.proofs.judge_all.Given as goal
+use Rattle.engine.proofs.judged.Judged.of.Given as goal
 
 abbrev pub invariant-loop-component : goal.invariant-loop-component
 invariant-loop-component g l = JudgedBelow g.S.Scale.size g.S.Scale.has l.house l.component l.verdicts
