@@ -82,8 +82,9 @@ pub fn lay_fact<S: Scale>(sizes: Sizes, fact: &Fact<S>, cells: &mut [S], hour: u
 pub fn lay_facts<S: Scale>(sizes: Sizes, facts: &[Fact<S>], cells: &mut [S], hour: u8)
     ensures { Narrowed (course_of sizes S.Scale.has cells.old) (at_hour hour (facts_grant S.Scale.has facts.now)) (course_of sizes S.Scale.has cells.new) }
 {
-    for fact in facts {
-        lay_fact(sizes, fact, cells, hour);
+    // By index: the project fixes this form here, since facts are filed, struck and refused by their places.
+    for i in 0..facts.len() {
+        lay_fact(sizes, &facts[i], cells, hour);
     }
 }
 
