@@ -7,7 +7,7 @@ use super::files::{Draft, Shape};
 use super::scales::Compared;
 use anyhow::{Context, bail};
 use book::{Quorum, Stairs};
-use house::Fact;
+use house::{Cell, Fact};
 use life::{Answer, Call, replay};
 use record::{Content, read};
 use record_entry::Tables;
@@ -15,7 +15,7 @@ use scale::Recorded;
 use second::{Kind, Ledger, Set};
 use std::alloc::{AllocError, Global};
 use std::fmt;
-use workspace::{Workspace, copies, front, house_of};
+use workspace::{Workspace, copies, house_of};
 
 // A bound in a call, as four bytes, so that each program reads it in its own way.
 type Form = [u8; 4];
@@ -48,11 +48,11 @@ fn random_look(dice: &mut Dice, shape: Shape) -> Call<Form> {
     let hour = dice.below(shape.last.saturating_add(2));
     let component = dice.below(shape.components());
     let label = dice.below(shape.moving.saturating_add(1));
-    Call::Look {
+    Call::Look(Cell {
         hour: small(hour),
         component: number(component),
         label: small(shape.fixed.saturating_add(label)),
-    }
+    })
 }
 
 // A random call. Settling is common, so that most lives come to it.
@@ -86,15 +86,7 @@ fn lent_call<S: Recorded>(call: Call<Form>) -> anyhow::Result<Call<S>> {
         Call::Strike(at) => Call::Strike(at),
         Call::Settle => Call::Settle,
         Call::Reopen => Call::Reopen,
-        Call::Look {
-            hour,
-            component,
-            label,
-        } => Call::Look {
-            hour,
-            component,
-            label,
-        },
+        Call::Look(cell) => Call::Look(cell),
         Call::Entails(fact) => Call::Entails(lent_fact(fact)?),
     })
 }
@@ -117,14 +109,10 @@ fn own_call(kind: Kind, call: Call<Form>) -> second::Call {
         Call::Strike(at) => second::Call::Strike(at),
         Call::Settle => second::Call::Settle,
         Call::Reopen => second::Call::Reopen,
-        Call::Look {
-            hour,
-            component,
-            label,
-        } => second::Call::Look(second::Cell {
-            hour: hour as usize,
-            component: component as usize,
-            label: label as usize,
+        Call::Look(cell) => second::Call::Look(second::Cell {
+            hour: cell.hour as usize,
+            component: cell.component as usize,
+            label: cell.label as usize,
         }),
         Call::Entails(fact) => second::Call::Entails(own_fact(kind, fact)),
     }
@@ -142,10 +130,7 @@ impl<S: Recorded> fmt::Display for Told<S> {
             Answer::Settled => write!(f, "settled"),
             Answer::Reopened => write!(f, "reopened"),
             Answer::Misplaced => write!(f, "misplaced"),
-            Answer::Contradiction(at) => {
-                let (hour, component, label) = (at.hour, at.component, at.label);
-                write!(f, "contradiction {hour} {component} {label}")
-            }
+            Answer::Contradiction(at) => write!(f, "{at}"),
             Answer::Seen(bound) => {
                 let [p, q, r, s] = bound.to_bytes();
                 let a = u16::from_be_bytes([p, q]);
@@ -153,10 +138,7 @@ impl<S: Recorded> fmt::Display for Told<S> {
                 write!(f, "seen {a} {b}")
             }
             Answer::Entailed(yes) => write!(f, "entailed {yes}"),
-            Answer::Refused(refusal) => {
-                let (number, place) = (refusal.number(), refusal.place());
-                write!(f, "refused {number} {place}")
-            }
+            Answer::Refused(refusal) => write!(f, "{refusal}"),
         }
     }
 }
@@ -199,14 +181,9 @@ impl Life {
         content: Content,
         tables: &Tables<S>,
     ) -> anyhow::Result<String> {
-        let Content {
-            sizes,
-            quorum,
-            counts,
-            ..
-        } = content;
-        let house = house_of(sizes, counts, tables);
-        let stairs: Stairs<S> = Stairs::over(front(tables.steps, counts.steps));
+        let Content { sizes, quorum, .. } = content;
+        let house = house_of(sizes, tables);
+        let stairs: Stairs<S> = Stairs::over(tables.steps.records());
         let Ok(book) = Quorum::new(quorum, stairs) else {
             bail!("the quorum is above 200");
         };

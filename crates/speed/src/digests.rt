@@ -20,8 +20,5 @@ fn mixed(hash: u64, byte: u8) -> u64 {
 
 // How many cells are not loose.
 pub fn narrow_cells<S: Scale>(course: &[S]) -> usize {
-    course
-        .iter()
-        .filter(|cell| !S::loose().within(**cell))
-        .count()
+    course.iter().filter(|cell| !cell.is_loose()).count()
 }

@@ -9,7 +9,7 @@ use record_entry::Tables;
 use scale::{Recorded, Scale};
 use std::fmt;
 use std::time::Instant;
-use workspace::{Workspace, copies, front, house_of};
+use workspace::{Workspace, copies, house_of};
 
 // What settling came to.
 #[derive(Clone, Copy)]
@@ -23,17 +23,8 @@ impl fmt::Display for End {
     fn fmt<W: fmt::Write>(&self, f: &mut fmt::Formatter<W>) -> fmt::Result {
         match self {
             End::Settled => write!(f, "settled"),
-            End::Contradiction(at) => {
-                let hour = at.hour;
-                let component = at.component;
-                let label = at.label;
-                write!(f, "contradiction {hour} {component} {label}")
-            }
-            End::Refused(refusal) => {
-                let number = refusal.number();
-                let place = refusal.place();
-                write!(f, "refused {number} {place}")
-            }
+            End::Contradiction(at) => write!(f, "{at}"),
+            End::Refused(refusal) => write!(f, "{refusal}"),
         }
     }
 }
@@ -86,10 +77,9 @@ fn conclude<S: Recorded>(
         draft,
         sizes,
         quorum,
-        counts,
     } = content;
-    let house = house_of(sizes, counts, tables);
-    let stairs: Stairs<S> = Stairs::over(front(tables.steps, counts.steps));
+    let house = house_of(sizes, tables);
+    let stairs: Stairs<S> = Stairs::over(tables.steps.records());
     let Ok(book) = Quorum::new(quorum, stairs) else {
         bail!("the quorum is above 200");
     };
@@ -114,9 +104,7 @@ pub fn run<S: Recorded>(rt: &HostRuntime, bytes: &[u8], rounds: u32) -> anyhow::
     match read(bytes, &mut tables) {
         Ok(content) => conclude(rt, content, &tables, rounds),
         Err(fault) => {
-            let number = fault.number();
-            let place = fault.place();
-            println!(rt; "refused {number} {place}")?;
+            println!(rt; "{fault}")?;
             Ok(())
         }
     }

@@ -1,7 +1,6 @@
 // The building of the tour: two switchboards that feed a lift.
-use anyhow::anyhow;
 use book::{Stair, Stairs};
-use house::{Body, Condition, Edge, House, Rule, Sizes, Test};
+use house::{Body, Condition, Edge, House, Kind, Rule, Sizes, Test};
 use scale::{Scale, Thousandths};
 
 // The nodes. The lines from the boards to the lift come after them.
@@ -20,11 +19,6 @@ pub const SUPPLY: u8 = 1;
 // The hours are 0 to 2.
 pub const LAST: u8 = 2;
 
-// The range from low to high.
-pub fn range(low: u16, high: u16) -> anyhow::Result<Thousandths> {
-    Thousandths::range(low, high).map_err(|_| anyhow!("no such range"))
-}
-
 // The tables of the house and of its book.
 #[derive(Drop)]
 pub struct Building {
@@ -40,7 +34,7 @@ impl Building {
     // Where at least half of the boards are at 100 or less, the lift is at 200 or less an hour later.
     pub fn new() -> anyhow::Result<Building> {
         let loose = Thousandths::loose();
-        let served = range(1000, 1000)?;
+        let served = Thousandths::range(1000, 1000)?;
         Ok(Building {
             edges: [
                 Edge {
@@ -60,27 +54,27 @@ impl Building {
                 },
                 Test {
                     label: SUPPLY,
-                    bound: range(0, 100)?,
+                    bound: Thousandths::range(0, 100)?,
                 },
             ],
             conditions: [Condition {
-                kind: 0,
+                kind: Kind::Test,
                 a: 0,
                 b: 0,
             }],
             rules: [Rule {
                 target: SUPPLY,
                 delay: 1,
-                onto: 0,
-                along: 255,
-                source: 255,
+                onto: Some(0),
+                along: None,
+                source: None,
                 body: Body { first: 1, count: 1 },
                 formula: 0,
             }],
             steps: [Stair {
                 formula: 0,
                 share: 500,
-                bound: range(0, 200)?,
+                bound: Thousandths::range(0, 200)?,
             }],
         })
     }

@@ -7,9 +7,9 @@ mod building;
 mod words;
 
 use anyhow::ensure;
-use building::{Building, LAST, LIFT, NORTH, SOUTH, SUPPLY, range};
+use building::{Building, LAST, LIFT, NORTH, SOUTH, SUPPLY};
 use examining::examine;
-use house::Fact;
+use house::{Cell, Fact};
 use life::{Call, replay};
 use scale::{Scale, Thousandths};
 use std::alloc::Global;
@@ -20,7 +20,7 @@ fn known(component: u16, low: u16, high: u16, hour: u8) -> anyhow::Result<Fact<T
     Ok(Fact {
         component,
         label: SUPPLY,
-        bound: range(low, high)?,
+        bound: Thousandths::range(low, high)?,
         from: hour,
         to: hour,
     })
@@ -28,11 +28,11 @@ fn known(component: u16, low: u16, high: u16, hour: u8) -> anyhow::Result<Fact<T
 
 // A look at the supply of a part in an hour.
 fn look(hour: u8, component: u16) -> Call<Thousandths> {
-    Call::Look {
+    Call::Look(Cell {
         hour,
         component,
         label: SUPPLY,
-    }
+    })
 }
 
 // The calls of the shutdown: what is known, the course, a question, a sheet that contradicts the others, and the plan

@@ -74,12 +74,9 @@ impl fmt::Display for Asked<'_> {
             Call::Strike(at) => write!(f, "strike fact {at}"),
             Call::Settle => write!(f, "settle"),
             Call::Reopen => write!(f, "reopen"),
-            Call::Look {
-                hour,
-                component,
-                ..
-            } => {
-                let part = Part(*component);
+            Call::Look(cell) => {
+                let part = Part(cell.component);
+                let hour = cell.hour;
                 write!(f, "look at {part} in hour {hour}")
             }
             Call::Entails(fact) => {
@@ -108,8 +105,8 @@ impl fmt::Display for Answered<'_> {
             Answer::Entailed(true) => write!(f, "? Yes"),
             Answer::Entailed(false) => write!(f, "? No"),
             Answer::Contradiction(at) => {
-                let part = Part(at.component);
-                let hour = at.hour;
+                let part = Part(at.cell.component);
+                let hour = at.cell.hour;
                 write!(
                     f,
                     ": the sheets contradict each other, first at {part} in hour {hour}"
