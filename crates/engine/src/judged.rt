@@ -31,6 +31,7 @@ impl<'a, S: Scale> Judged<'a, S> {
         ensures { result.house.now ≡ house.now }
     {
         let mut verdicts = [Verdicts::of(house, 0); MOST_COMPONENTS];
+        // By index, up to the last component: `array::from_fn` would judge all places, however small the house.
         for component in 1..components(house.sizes).min(MOST_COMPONENTS as u16) {
             verdicts[component as usize] = Verdicts::of(house, component);
         }

@@ -21,6 +21,7 @@ impl Verdicts {
         let mut said = [false; 64];
         for (i, condition) in house.conditions.iter().take(64).enumerate() {
             let answer = judged(house, component, &said, *condition);
+            // By index: the answers so far are read while the next is worked out.
             said[i] = answer;
         }
         Verdicts { said }
