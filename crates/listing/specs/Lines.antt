@@ -1,5 +1,5 @@
 -- The listing of a course: a line for each cell that is not loose.
-use Rattle.std.specs.Prelude.{ℕ, suc, ◌+◌, ◌*◌, ◌/◌, ◌%◌, max, Bool, cond, List, [], ◌∷◌, ◌++◌, codes, decimal, slice_index}
+use Rattle.std.specs.Prelude.{ℕ, suc, ◌+◌, ◌*◌, ◌/◌, ◌%◌, max, cond, List, [], ◌∷◌, ◌++◌, codes, decimal, slice_index}
 use Rattle.points.specs.Points.{Points, is_loose}
 use Rattle.house.specs.declared.tables.Sizes.{Sizes}
 use Rattle.house.specs.Cells.{components}

@@ -26,6 +26,7 @@ fn put_line(out: &mut String, sizes: Sizes, at: usize, form: [u8; 4]) -> fmt::Re
 }
 
 // Writes the line of the cell at a place, unless it is loose.
+#[tactic(auto, unfolding(crate::specs::Lines::line_of))]
 fn put_cell<S: Recorded>(out: &mut String, sizes: Sizes, at: usize, cell: S) -> fmt::Result
     ensures { OnOk result (string_bytes out.new ≡ string_bytes out.old ++ line_of S.Scale.size S.Scale.has S.Recorded.form sizes at cell) }
 {
@@ -36,6 +37,7 @@ fn put_cell<S: Recorded>(out: &mut String, sizes: Sizes, at: usize, cell: S) -> 
 }
 
 // The listing of a course.
+#[tactic(auto, using(crate::proofs::LineFacts::listing_more), unfolding(crate::specs::Lines::lines_from))]
 pub fn listing<S: Recorded>(heap: Global, sizes: Sizes, course: &[S]) -> Result<String, fmt::Error>
     ensures { IfOk result (λ text. string_bytes text ≡ listing_of S.Scale.size S.Scale.has S.Recorded.form sizes course.now) }
 {
