@@ -19,7 +19,8 @@ impl Dice {
         z ^ (z >> 31)
     }
 
-    // A number below n, and 0 where n is 0.
+    // A number below n, and 0 where n is 0. A draw of one of n cases is matched by its number: an enum for each such draw
+    // would be no plainer.
     pub fn below(&mut self, n: usize) -> usize {
         if n == 0 {
             return 0;

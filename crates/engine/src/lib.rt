@@ -2,7 +2,8 @@
 //
 // What facts, rules and carrying ask of an hour depends on earlier hours alone, and constraints act within one component
 // at one hour. So each hour is settled when the ones before it are: it begins as the hour before, loose where it is
-// touched, and is narrowed by facts, by rules and by constraints.
+// touched, and is narrowed by facts, by rules and by constraints. The cells come beside the house, and `Whole` in the
+// contracts: a struct with the `&mut` would need a clause in each of them that the same cells stay lent.
 #![tactic(auto)]
 
 ghost use Rattle.std.specs.Prelude.{◌≡◌, ◌+◌, ◌≤◌, min, length};
@@ -62,7 +63,8 @@ fn settle_hour<S: Scale, B: Book<S>>(
     constrain_hour(judged.house, cells, hour);
 }
 
-// How many components there are, in the 16 bits of their numbers: the largest number if there are more.
+// How many components there are, in the 16 bits of their numbers: the largest number if there are more. The count of
+// `Sizes` is wider, and a cast wherever a component is named would be no plainer.
 fn components(sizes: Sizes) -> u16
     ensures { result ≡ min (components sizes) 65535 }
 {

@@ -1,5 +1,6 @@
 // The examination of a house: eight checks in order, each over its places from the lowest on. The first place at which
-// a check fails is the answer.
+// a check fails is the answer. Each check is a function, since each answers for a definition of its own: one that is passed
+// what to ask would need a contract over that, and be no plainer.
 ghost use Rattle.std.specs.Prelude.{◌≡◌, length, not, position};
 ghost use Rattle.points.specs.Points.{void};
 ghost use Rattle.examining.specs.Checks.{between, edge_passes, condition_passes, names_label_lem, joins_nodes_lem, tests_fixed_lem, tests_moving_lem, condition_kept, body_ends_lem, constraint_kept, names_condition_lem, rule_kept};
@@ -191,6 +192,7 @@ fn keeps_kind<S: Scale>(house: &House<S>, at: usize, condition: Condition) -> bo
 fn bad_condition<S: Scale>(house: &House<S>) -> Option<usize>
     ensures { Lowest (length house.now.conditions.now) (condition_passes house.now.sizes house.now.tests.now house.now.conditions.now) result }
 {
+    // A loop, since each condition is judged with its place: a proof over a chain with `enumerate` did not close.
     for (at, condition) in house.conditions.iter().enumerate() {
         if !keeps_kind(house, at, *condition) {
             return Some(at);

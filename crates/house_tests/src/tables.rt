@@ -28,7 +28,8 @@ impl Book<Thousandths> for Blank {
     }
 }
 
-// How many records of each table are in use.
+// How many records of each table are in use. Arrays with a length beside: a test changes one record by its place, which a
+// proof allows in an array and not in a list of any length.
 #[derive(Clone, Copy)]
 pub struct Lengths {
     pub edges: usize,

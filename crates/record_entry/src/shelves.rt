@@ -47,6 +47,7 @@ impl<T: Copy> Shelf<'_, T> {
         if self.count >= self.table.len() {
             return Err(EntryFault::House);
         }
+        // By index: after a loan of the table, as by `get_mut`, a proof no longer knows what it holds.
         self.table[self.count] = item;
         self.count += 1;
         Ok(())
