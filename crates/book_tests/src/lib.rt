@@ -11,27 +11,27 @@ mod tests {
     use std::test::Fail;
 
     // The thousandths from 0 to high.
-    fn up_to(rt: &impl Abort, high: u16) -> Thousandths {
-        Thousandths::range(0, high).expect(rt, "0 to high is a range")
+    fn up_to(high: u16) -> Thousandths {
+        Thousandths::range(0, high).unwrap_or(Thousandths::none())
     }
 
     // A stair of formula 0 with the bound 0 to 400.
-    fn stair(rt: &impl Abort, share: u16) -> Stair<Thousandths> {
+    fn stair(share: u16) -> Stair<Thousandths> {
         Stair {
             formula: 0,
             share,
-            bound: up_to(rt, 400),
+            bound: up_to(400),
         }
     }
 
     // Whether the book's formula f says 0 to high at x of y.
     fn says<B: Book<Thousandths>>(rt: &impl Abort, book: &B, f: u16, x: u16, y: u16, high: u16) {
-        assert_eq!(rt; book.answer(f, x, y).to_bytes(), up_to(rt, high).to_bytes());
+        assert_eq!(rt; book.answer(f, x, y).to_bytes(), up_to(high).to_bytes());
     }
 
     #[test]
     fn half_of_the_neighbours(rt: HostRuntime) {
-        let stairs = [stair(&rt, 500)];
+        let stairs = [stair(500)];
         let book = Stairs::over(&stairs);
         says(&rt, &book, 0, 1, 2, 400);
         says(&rt, &book, 0, 1, 3, 1000);
@@ -40,13 +40,13 @@ mod tests {
 
     #[test]
     fn shares_at_the_ends(rt: HostRuntime) {
-        says(&rt, &Stairs::over(&[stair(&rt, 0)]), 0, 0, 1, 400);
-        says(&rt, &Stairs::over(&[stair(&rt, 1001)]), 0, 200, 200, 1000);
+        says(&rt, &Stairs::over(&[stair(0)]), 0, 0, 1, 400);
+        says(&rt, &Stairs::over(&[stair(1001)]), 0, 200, 200, 1000);
     }
 
     #[test]
     fn loose_outside(rt: HostRuntime) {
-        let stairs = [stair(&rt, 0)];
+        let stairs = [stair(0)];
         let book = Stairs::over(&stairs);
         says(&rt, &book, 0, 200, 200, 400);
         says(&rt, &book, 0, 3, 2, 1000);
@@ -60,12 +60,12 @@ mod tests {
             CountStep {
                 formula: 255,
                 least: 0,
-                bound: up_to(&rt, 700),
+                bound: up_to(700),
             },
             CountStep {
                 formula: 255,
                 least: 2,
-                bound: up_to(&rt, 300),
+                bound: up_to(300),
             },
         ];
         let book = CountingBook::over(&steps);
@@ -85,7 +85,7 @@ mod tests {
 
     #[test]
     fn quorums(rt: HostRuntime) -> Result<(), Fail> {
-        let stairs = [stair(&rt, 0)];
+        let stairs = [stair(0)];
         let three = Quorum::new(3, Stairs::over(&stairs))?;
         says(&rt, &three, 0, 1, 2, 1000);
         says(&rt, &three, 0, 1, 3, 400);
@@ -98,7 +98,7 @@ mod tests {
 
     #[test]
     fn refused_quorums(rt: HostRuntime) -> Result<(), Fail> {
-        let stairs = [stair(&rt, 0)];
+        let stairs = [stair(0)];
         let none = Quorum::new(0, Stairs::over(&stairs))?;
         says(&rt, &none, 0, 0, 1, 400);
         let Err(refused) = Quorum::new(201, none) else {
