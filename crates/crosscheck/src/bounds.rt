@@ -10,6 +10,13 @@ pub struct Taste {
     pub common: Option<usize>,
 }
 
+// How many points a bound is to have: few or many.
+#[derive(Clone, Copy, PartialEq, Eq, Debug)]
+pub enum Width {
+    Narrow,
+    Wide,
+}
+
 impl Taste {
     // A taste in this scale; with a common point three times in four.
     pub fn roll(dice: &mut Dice, kind: Kind) -> Taste {
@@ -18,12 +25,12 @@ impl Taste {
         Taste { kind, common }
     }
 
-    // A bound, narrow or wide.
-    pub fn bound(self, dice: &mut Dice, narrow: bool) -> [u8; 4] {
+    // A bound of this width.
+    pub fn bound(self, dice: &mut Dice, width: Width) -> [u8; 4] {
         let point = self.common.unwrap_or_else(|| dice.below(self.kind.size()));
         let (a, b) = match self.kind {
-            Kind::Thousandths => range(dice, point, narrow),
-            Kind::Modes => (mask(dice, point, narrow), 0),
+            Kind::Thousandths => range(dice, point, width),
+            Kind::Modes => (mask(dice, point, width), 0),
         };
         form(a, b)
     }
@@ -39,25 +46,36 @@ impl Taste {
 
 // Two 16-bit numbers, high byte first.
 fn form(a: usize, b: usize) -> [u8; 4] {
-    [high(a), low(a), high(b), low(b)]
+    let ([p, q], [r, s]) = (bytes(a), bytes(b));
+    [p, q, r, s]
 }
 
-// The low byte of a number of 16 bits.
+// The two bytes of a number of 16 bits, the high one first.
+fn bytes(n: usize) -> [u8; 2] {
+    ((n & 0xffff) as u16).to_be_bytes()
+}
+
+// The low byte.
 pub fn low(n: usize) -> u8 {
-    (n & 0xff) as u8
+    let [_, low] = bytes(n);
+    low
 }
 
 // The high byte.
 pub fn high(n: usize) -> u8 {
-    ((n >> 8) & 0xff) as u8
+    let [high, _] = bytes(n);
+    high
 }
 
 // A range around a point. Wide ones often reach an end of the scale.
-fn range(dice: &mut Dice, point: usize, narrow: bool) -> (usize, usize) {
-    let span = if narrow { dice.between(0, 250) } else { 1000 };
+fn range(dice: &mut Dice, point: usize, width: Width) -> (usize, usize) {
+    let span = match width {
+        Width::Narrow => dice.between(0, 250),
+        Width::Wide => 1000,
+    };
     let low = dice.between(point.saturating_sub(span), point);
     let high = dice.between(point, point.saturating_add(span).min(1000));
-    if narrow {
+    if width == Width::Narrow {
         return (low, high);
     }
     match dice.below(3) {
@@ -68,9 +86,12 @@ fn range(dice: &mut Dice, point: usize, narrow: bool) -> (usize, usize) {
 }
 
 // A mask with a point.
-fn mask(dice: &mut Dice, point: usize, narrow: bool) -> usize {
+fn mask(dice: &mut Dice, point: usize, width: Width) -> usize {
     let a = dice.below(65_536);
     let b = dice.below(65_536);
     let one = 1usize << (point % 16);
-    if narrow { a & b | one } else { a | b | one }
+    match width {
+        Width::Narrow => a & b | one,
+        Width::Wide => a | b | one,
+    }
 }

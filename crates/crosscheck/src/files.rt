@@ -1,7 +1,10 @@
 // Random record files of a given shape.
-use super::bounds::{Taste, high, low};
+use super::bounds::{Taste, Width, high, low};
 use super::dice::Dice;
 use std::alloc::{AllocError, Global};
+
+// What stands in a record in the place of a rule's condition where there is none.
+const NO_CONDITION: usize = 255;
 
 // How large a house is, and how many records of each kind the file has. Nothing keeps these within the limits of a
 // house, so that files just past a limit can be made too.
@@ -191,7 +194,7 @@ impl Draft {
             let place = first.saturating_add(i) % places;
             let component = place / self.shape.fixed.max(1);
             let label = place % self.shape.fixed.max(1);
-            let [p, q, r, s] = self.taste.bound(dice, true);
+            let [p, q, r, s] = self.taste.bound(dice, Width::Narrow);
             let rest = [high(component), low(component), low(label), p, q, r, s];
             self.record(b'X', &rest)?;
         }
@@ -208,7 +211,7 @@ impl Draft {
             let [p, q, r, s] = if dice.once_in(30) {
                 self.taste.void()
             } else {
-                self.taste.bound(dice, false)
+                self.taste.bound(dice, Width::Wide)
             };
             self.record(b'T', &[low(label), 0, 0, p, q, r, s])?;
         }
@@ -221,7 +224,8 @@ impl Draft {
             .saturating_add(dice.below(self.shape.moving))
     }
 
-    // Conditions are there only where a fixed label is tested.
+    // Conditions are there only where a fixed label is tested. Their kinds are the numbers that a record has: 0 looks at a
+    // test, the others at earlier conditions.
     fn conditions(&mut self, dice: &mut Dice) -> Result<(), AllocError> {
         let tests = self.shape.fixed_tests();
         if tests == 0 {
@@ -260,12 +264,12 @@ impl Draft {
         Ok(())
     }
 
-    // A condition of a rule: one that is there, or 255.
-    fn condition(&mut self, dice: &mut Dice) -> usize {
+    // A condition of a rule: one that is there, or none.
+    fn condition(&mut self, dice: &mut Dice) -> Option<usize> {
         if self.shape.fixed_tests() == 0 || self.shape.conditions == 0 || dice.once_in(2) {
-            return 255;
+            return None;
         }
-        dice.below(self.shape.conditions)
+        Some(dice.below(self.shape.conditions))
     }
 
     fn rules(&mut self, dice: &mut Dice) -> Result<(), AllocError> {
@@ -287,9 +291,9 @@ impl Draft {
             let rest = [
                 low(target),
                 low(delay),
-                low(onto),
-                low(along),
-                low(source),
+                low(onto.unwrap_or(NO_CONDITION)),
+                low(along.unwrap_or(NO_CONDITION)),
+                low(source.unwrap_or(NO_CONDITION)),
                 low(first),
                 low(count),
                 low(dice.below(formulas)),
@@ -308,7 +312,7 @@ impl Draft {
             } else {
                 dice.between(0, 4).saturating_mul(250)
             };
-            let [p, q, r, s] = self.taste.bound(dice, false);
+            let [p, q, r, s] = self.taste.bound(dice, Width::Wide);
             self.record(b'Q', &[low(formula), high(share), low(share), p, q, r, s])?;
         }
         Ok(())
@@ -318,7 +322,7 @@ impl Draft {
         for _i in 0..self.shape.facts {
             let component = dice.below(self.shape.components());
             let label = self.moving_label(dice);
-            let [p, q, r, s] = self.taste.bound(dice, true);
+            let [p, q, r, s] = self.taste.bound(dice, Width::Narrow);
             let from = dice.below(self.shape.last.saturating_add(1));
             let to = dice.between(from, self.shape.last.min(from.saturating_add(2)));
             let rest = [

@@ -1,5 +1,5 @@
 // Lives of a plan: random lists of calls, played by the library's `replay` and by the second program's ledger.
-use super::bounds::Taste;
+use super::bounds::{Taste, Width, low};
 use super::compare::Answers;
 use super::damage::damage;
 use super::dice::Dice;
@@ -24,13 +24,17 @@ fn random_fact(dice: &mut Dice, shape: Shape, taste: Taste) -> Fact<Form> {
     let from = dice.below(shape.last.saturating_add(2));
     let least = from.saturating_sub(dice.below(2));
     let to = dice.between(least, from.saturating_add(2));
-    let narrow = dice.once_in(2);
+    let width = if dice.once_in(2) {
+        Width::Narrow
+    } else {
+        Width::Wide
+    };
     Fact {
         component: number(dice.below(shape.components().saturating_add(1))),
-        label: small(shape.fixed.saturating_add(dice.below(shape.moving))),
-        bound: taste.bound(dice, narrow),
-        from: small(from),
-        to: small(to.min(shape.last)),
+        label: low(shape.fixed.saturating_add(dice.below(shape.moving))),
+        bound: taste.bound(dice, width),
+        from: low(from),
+        to: low(to.min(shape.last)),
     }
 }
 
@@ -39,19 +43,14 @@ fn number(n: usize) -> u16 {
     u16::try_from(n).unwrap_or(0)
 }
 
-// A number that fits 8 bits, and 0 otherwise.
-fn small(n: usize) -> u8 {
-    u8::try_from(n).unwrap_or(0)
-}
-
 fn random_look(dice: &mut Dice, shape: Shape) -> Call<Form> {
     let hour = dice.below(shape.last.saturating_add(2));
     let component = dice.below(shape.components());
     let label = dice.below(shape.moving.saturating_add(1));
     Call::Look(Cell {
-        hour: small(hour),
+        hour: low(hour),
         component: number(component),
-        label: small(shape.fixed.saturating_add(label)),
+        label: low(shape.fixed.saturating_add(label)),
     })
 }
 

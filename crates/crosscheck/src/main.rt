@@ -44,6 +44,7 @@ fn compare_files<S: Compared>(
     files: usize,
 ) -> anyhow::Result<Tally> {
     let mut tally = Tally::new(rt.alloc());
+    // A loop that counts, and no chain: a turn can fail, and prints what differs.
     for i in 0..files {
         let file = random_file(rt.alloc(), dice, S::KIND, i)?;
         let texts = both_texts::<S>(rt.alloc(), &file)?;
@@ -72,6 +73,7 @@ fn compare_lives<S: Compared>(
 ) -> anyhow::Result<Agreement> {
     let mut calls = 0usize;
     let mut differ = 0usize;
+    // A loop that counts, for the same reason.
     for _i in 0..lives {
         let answers = live::<S>(rt.alloc(), dice)?;
         if answers.agree() {

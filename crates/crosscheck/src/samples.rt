@@ -77,6 +77,7 @@ impl Sample {
 // How many of the examples come out as they have to.
 pub fn samples_right(heap: Global) -> anyhow::Result<usize> {
     let mut right = 0usize;
+    // Counted in a loop, since a turn can fail.
     for sample in &SAMPLES {
         if sample.is_told(heap)? {
             right = right.saturating_add(1);
