@@ -1,6 +1,6 @@
 // The refusals, by their number and place. An accepted house has number 0 and place 0 here.
 use super::tables::{Blank, Lengths, Tables, house, lawful};
-use examining::examine;
+use examining::{TableName, examine};
 use house::{Body, Condition, Edge, Kind, Sizes};
 use scale::Thousandths;
 
@@ -111,93 +111,34 @@ fn sizes(rt: HostRuntime) {
     assert_eq!(rt; sized(Sizes { last: 64, ..sizes }), (1, 4));
 }
 
+// So many records of this table are in use.
+fn long(table: TableName, count: usize) -> (u8, usize) {
+    let mut lengths = lawful().lengths;
+    match table {
+        TableName::Edges => lengths.edges = count,
+        TableName::FixedBounds => lengths.fixed = count,
+        TableName::Tests => lengths.tests = count,
+        TableName::Conditions => lengths.conditions = count,
+        TableName::Constraints => lengths.constraints = count,
+        TableName::Rules => lengths.rules = count,
+    }
+    filled(lengths)
+}
+
 #[test]
 fn lengths(rt: HostRuntime) {
-    let lengths = lawful().lengths;
-    assert_eq!(rt;
-        filled(Lengths {
-            edges: 1,
-            ..lengths
-        }),
-        (2, 0)
-    );
-    assert_eq!(rt;
-        filled(Lengths {
-            edges: 3,
-            ..lengths
-        }),
-        (2, 0)
-    );
-    assert_eq!(rt;
-        filled(Lengths {
-            fixed: 4,
-            ..lengths
-        }),
-        (2, 1)
-    );
-    assert_eq!(rt;
-        filled(Lengths {
-            fixed: 6,
-            ..lengths
-        }),
-        (2, 1)
-    );
-    assert_eq!(rt;
-        filled(Lengths {
-            tests: 64,
-            ..lengths
-        }),
-        (0, 0)
-    );
-    assert_eq!(rt;
-        filled(Lengths {
-            tests: 65,
-            ..lengths
-        }),
-        (2, 2)
-    );
-    assert_eq!(rt;
-        filled(Lengths {
-            conditions: 64,
-            ..lengths
-        }),
-        (0, 0)
-    );
-    assert_eq!(rt;
-        filled(Lengths {
-            conditions: 65,
-            ..lengths
-        }),
-        (2, 3)
-    );
-    assert_eq!(rt;
-        filled(Lengths {
-            constraints: 64,
-            ..lengths
-        }),
-        (0, 0)
-    );
-    assert_eq!(rt;
-        filled(Lengths {
-            constraints: 65,
-            ..lengths
-        }),
-        (2, 4)
-    );
-    assert_eq!(rt;
-        filled(Lengths {
-            rules: 64,
-            ..lengths
-        }),
-        (0, 0)
-    );
-    assert_eq!(rt;
-        filled(Lengths {
-            rules: 65,
-            ..lengths
-        }),
-        (2, 5)
-    );
+    assert_eq!(rt; long(TableName::Edges, 1), (2, 0));
+    assert_eq!(rt; long(TableName::Edges, 3), (2, 0));
+    assert_eq!(rt; long(TableName::FixedBounds, 4), (2, 1));
+    assert_eq!(rt; long(TableName::FixedBounds, 6), (2, 1));
+    assert_eq!(rt; long(TableName::Tests, 64), (0, 0));
+    assert_eq!(rt; long(TableName::Tests, 65), (2, 2));
+    assert_eq!(rt; long(TableName::Conditions, 64), (0, 0));
+    assert_eq!(rt; long(TableName::Conditions, 65), (2, 3));
+    assert_eq!(rt; long(TableName::Constraints, 64), (0, 0));
+    assert_eq!(rt; long(TableName::Constraints, 65), (2, 4));
+    assert_eq!(rt; long(TableName::Rules, 64), (0, 0));
+    assert_eq!(rt; long(TableName::Rules, 65), (2, 5));
 }
 
 #[test]

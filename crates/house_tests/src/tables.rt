@@ -53,20 +53,38 @@ pub struct Tables {
     pub rules: [Rule; 65],
 }
 
-// A house of three nodes with one fixed label, 0, and one moving label, 1.
-pub fn lawful() -> Tables {
-    let bound = Thousandths::loose();
-    let test = Test { label: 0, bound };
-    let condition = Condition {
-        kind: Kind::Test,
-        a: 0,
-        b: 9,
-    };
-    let constraint = Constraint {
-        head: 1,
-        body: Body { first: 0, count: 2 },
-    };
-    let rule = Rule {
+// How large the house is: three nodes with one fixed label, 0, and one moving label, 1.
+fn small() -> Sizes {
+    Sizes {
+        nodes: 3,
+        edges: 2,
+        fixed: 1,
+        moving: 1,
+        last: 5,
+    }
+}
+
+// How much of the tables is in use.
+fn in_use() -> Lengths {
+    Lengths {
+        edges: 2,
+        fixed: 5,
+        tests: 2,
+        conditions: 4,
+        constraints: 1,
+        rules: 1,
+    }
+}
+
+// The constraint of the house.
+fn one_constraint() -> Constraint {
+    let body = Body { first: 0, count: 2 };
+    Constraint { head: 1, body }
+}
+
+// The rule of the house.
+fn one_rule() -> Rule {
+    Rule {
         target: 1,
         delay: 1,
         onto: None,
@@ -74,53 +92,38 @@ pub fn lawful() -> Tables {
         source: Some(3),
         body: Body { first: 2, count: 0 },
         formula: 1,
-    };
+    }
+}
+
+// A condition of this kind.
+fn made_of(kind: Kind, a: u8, b: u8) -> Condition {
+    Condition { kind, a, b }
+}
+
+// A lawful house.
+pub fn lawful() -> Tables {
+    let bound = Thousandths::loose();
     let mut tables = Tables {
-        sizes: Sizes {
-            nodes: 3,
-            edges: 2,
-            fixed: 1,
-            moving: 1,
-            last: 5,
-        },
-        lengths: Lengths {
-            edges: 2,
-            fixed: 5,
-            tests: 2,
-            conditions: 4,
-            constraints: 1,
-            rules: 1,
-        },
+        sizes: small(),
+        lengths: in_use(),
         edges: [
             Edge { from: 0, to: 1 },
             Edge { from: 1, to: 0 },
             Edge { from: 0, to: 1 },
         ],
         fixed: [bound; 6],
-        tests: [test; 65],
-        conditions: [condition; 65],
-        constraints: [constraint; 65],
-        rules: [rule; 65],
+        tests: [Test { label: 0, bound }; 65],
+        conditions: [made_of(Kind::Test, 0, 9); 65],
+        constraints: [one_constraint(); 65],
+        rules: [one_rule(); 65],
     };
     tables.tests[1] = Test {
         label: 1,
         bound: Thousandths::none(),
     };
-    tables.conditions[1] = Condition {
-        kind: Kind::Not,
-        a: 0,
-        b: 9,
-    };
-    tables.conditions[2] = Condition {
-        kind: Kind::Both,
-        a: 0,
-        b: 1,
-    };
-    tables.conditions[3] = Condition {
-        kind: Kind::Either,
-        a: 2,
-        b: 2,
-    };
+    tables.conditions[1] = made_of(Kind::Not, 0, 9);
+    tables.conditions[2] = made_of(Kind::Both, 0, 1);
+    tables.conditions[3] = made_of(Kind::Either, 2, 2);
     tables
 }
 

@@ -34,7 +34,7 @@ fn take<S: Recorded>(
 }
 
 // Takes every record in turn, up to the first that is refused. No record has been taken before.
-pub fn take_all<S: Recorded>(
+pub(super) fn take_all<S: Recorded>(
     lines: &[[u8; 16]],
     sizes: Sizes,
     tables: &mut Tables<S>,
