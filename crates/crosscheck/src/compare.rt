@@ -2,7 +2,7 @@
 use super::bounds::Taste;
 use super::damage::damage;
 use super::dice::Dice;
-use super::files::{Draft, Shape};
+use super::files::{Draft, Shape, Sketch};
 use super::limits::{LIMITS, shape_at};
 use super::scales::Compared;
 use report::report;
@@ -45,7 +45,7 @@ pub fn random_file(
         Shape::small(dice)
     };
     let taste = Taste::roll(dice, kind);
-    let mut file = Draft::write(heap, dice, shape, taste)?;
+    let mut file = Draft::write(heap, dice, Sketch { shape, taste })?;
     if i % 8 < 3 {
         damage(heap, dice, &mut file.bytes)?;
     }

@@ -103,26 +103,26 @@ const SECTIONS: [Section; 9] = [
     Section::Facts,
 ];
 
-// A file in the making: its bytes, its shape and the taste of its bounds.
+// What a file is to be like: its shape, and the taste of its bounds.
+#[derive(Clone, Copy)]
+pub struct Sketch {
+    pub shape: Shape,
+    pub taste: Taste,
+}
+
+// A file in the making: its bytes, and what it is to be like.
 #[derive(Drop)]
 pub struct Draft {
     pub bytes: Vec<u8>,
-    shape: Shape,
-    taste: Taste,
+    sketch: Sketch,
 }
 
 impl Draft {
-    // A file of a shape. The kinds of records come one after the other, beginning with any of them.
-    pub fn write(
-        heap: Global,
-        dice: &mut Dice,
-        shape: Shape,
-        taste: Taste,
-    ) -> Result<Draft, AllocError> {
+    // A file after a sketch. The kinds of records come one after the other, beginning with any of them.
+    pub fn write(heap: Global, dice: &mut Dice, sketch: Sketch) -> Result<Draft, AllocError> {
         let mut draft = Draft {
             bytes: Vec::new(heap),
-            shape,
-            taste,
+            sketch,
         };
         let kinds = SECTIONS.len();
         let first = dice.below(kinds);
@@ -152,7 +152,7 @@ impl Draft {
     }
 
     fn sizes(&mut self) -> Result<(), AllocError> {
-        let s = self.shape;
+        let s = self.sketch.shape;
         let rest = [
             high(s.nodes),
             low(s.nodes),
@@ -166,7 +166,7 @@ impl Draft {
 
     // Edges of which no pair comes twice while there are enough pairs: every few pairs in turn, or the same turned round.
     fn edges(&mut self, dice: &mut Dice) -> Result<(), AllocError> {
-        let nodes = self.shape.nodes.max(1);
+        let nodes = self.sketch.shape.nodes.max(1);
         let pairs = nodes.saturating_mul(nodes).max(1);
         let first = dice.below(pairs);
         let stride = if dice.once_in(2) {
@@ -175,7 +175,7 @@ impl Draft {
             nodes.saturating_add(1)
         };
         let turned = dice.once_in(2);
-        for i in 0..self.shape.edges {
+        for i in 0..self.sketch.shape.edges {
             let pair = i.saturating_mul(stride).saturating_add(first) % pairs;
             let (a, b) = (pair / nodes, pair % nodes);
             let (from, to) = if turned { (b, a) } else { (a, b) };
@@ -185,16 +185,20 @@ impl Draft {
     }
 
     fn fixed_bounds(&mut self, dice: &mut Dice) -> Result<(), AllocError> {
-        let places = self.shape.components().saturating_mul(self.shape.fixed);
+        let places = self
+            .sketch
+            .shape
+            .components()
+            .saturating_mul(self.sketch.shape.fixed);
         if places == 0 {
             return Ok(());
         }
         let first = dice.below(places);
-        for i in 0..self.shape.fixed_bounds.min(places) {
+        for i in 0..self.sketch.shape.fixed_bounds.min(places) {
             let place = first.saturating_add(i) % places;
-            let component = place / self.shape.fixed.max(1);
-            let label = place % self.shape.fixed.max(1);
-            let [p, q, r, s] = self.taste.bound(dice, Width::Narrow);
+            let component = place / self.sketch.shape.fixed.max(1);
+            let label = place % self.sketch.shape.fixed.max(1);
+            let [p, q, r, s] = self.sketch.taste.bound(dice, Width::Narrow);
             let rest = [high(component), low(component), low(label), p, q, r, s];
             self.record(b'X', &rest)?;
         }
@@ -202,16 +206,16 @@ impl Draft {
     }
 
     fn tests(&mut self, dice: &mut Dice) -> Result<(), AllocError> {
-        for i in 0..self.shape.tests {
-            let label = if i < self.shape.fixed_tests() {
-                dice.below(self.shape.fixed)
+        for i in 0..self.sketch.shape.tests {
+            let label = if i < self.sketch.shape.fixed_tests() {
+                dice.below(self.sketch.shape.fixed)
             } else {
                 self.moving_label(dice)
             };
             let [p, q, r, s] = if dice.once_in(30) {
-                self.taste.void()
+                self.sketch.taste.void()
             } else {
-                self.taste.bound(dice, Width::Wide)
+                self.sketch.taste.bound(dice, Width::Wide)
             };
             self.record(b'T', &[low(label), 0, 0, p, q, r, s])?;
         }
@@ -219,19 +223,20 @@ impl Draft {
     }
 
     fn moving_label(&mut self, dice: &mut Dice) -> usize {
-        self.shape
+        self.sketch
+            .shape
             .fixed
-            .saturating_add(dice.below(self.shape.moving))
+            .saturating_add(dice.below(self.sketch.shape.moving))
     }
 
     // Conditions are there only where a fixed label is tested. Their kinds are the numbers that a record has: 0 looks at a
     // test, the others at earlier conditions.
     fn conditions(&mut self, dice: &mut Dice) -> Result<(), AllocError> {
-        let tests = self.shape.fixed_tests();
+        let tests = self.sketch.shape.fixed_tests();
         if tests == 0 {
             return Ok(());
         }
-        for i in 0..self.shape.conditions {
+        for i in 0..self.sketch.shape.conditions {
             let kind = if i == 0 { 0 } else { dice.below(4) };
             let a = if kind == 0 {
                 dice.below(tests)
@@ -245,18 +250,18 @@ impl Draft {
 
     // A run of tests: the first, and how many.
     fn body(&mut self, dice: &mut Dice) -> (usize, usize) {
-        let first = dice.below(self.shape.tests.saturating_add(1));
-        let most = self.shape.tests.saturating_sub(first).min(2);
+        let first = dice.below(self.sketch.shape.tests.saturating_add(1));
+        let most = self.sketch.shape.tests.saturating_sub(first).min(2);
         (first, dice.between(0, most))
     }
 
     fn constraints(&mut self, dice: &mut Dice) -> Result<(), AllocError> {
-        let fixed = self.shape.fixed_tests();
-        let moving = self.shape.tests.saturating_sub(fixed);
+        let fixed = self.sketch.shape.fixed_tests();
+        let moving = self.sketch.shape.tests.saturating_sub(fixed);
         if moving == 0 {
             return Ok(());
         }
-        for _i in 0..self.shape.constraints {
+        for _i in 0..self.sketch.shape.constraints {
             let head = fixed.saturating_add(dice.below(moving));
             let (first, count) = self.body(dice);
             self.record(b'K', &[low(head), low(first), low(count)])?;
@@ -266,18 +271,21 @@ impl Draft {
 
     // A condition of a rule: one that is there, or none.
     fn condition(&mut self, dice: &mut Dice) -> Option<usize> {
-        if self.shape.fixed_tests() == 0 || self.shape.conditions == 0 || dice.once_in(2) {
+        if self.sketch.shape.fixed_tests() == 0
+            || self.sketch.shape.conditions == 0
+            || dice.once_in(2)
+        {
             return None;
         }
-        Some(dice.below(self.shape.conditions))
+        Some(dice.below(self.sketch.shape.conditions))
     }
 
     fn rules(&mut self, dice: &mut Dice) -> Result<(), AllocError> {
-        let formulas = self.shape.formulas.min(self.shape.stairs);
+        let formulas = self.sketch.shape.formulas.min(self.sketch.shape.stairs);
         if formulas == 0 {
             return Ok(());
         }
-        for _i in 0..self.shape.rules {
+        for _i in 0..self.sketch.shape.rules {
             let target = self.moving_label(dice);
             let delay = if dice.once_in(12) {
                 63
@@ -305,26 +313,26 @@ impl Draft {
 
     // Stairs whose formulas take turns, so that each below their number has one while there are enough stairs.
     fn stairs(&mut self, dice: &mut Dice) -> Result<(), AllocError> {
-        for i in 0..self.shape.stairs {
-            let formula = i % self.shape.formulas.max(1);
+        for i in 0..self.sketch.shape.stairs {
+            let formula = i % self.sketch.shape.formulas.max(1);
             let share = if dice.once_in(3) {
                 dice.between(0, 1001)
             } else {
                 dice.between(0, 4).saturating_mul(250)
             };
-            let [p, q, r, s] = self.taste.bound(dice, Width::Wide);
+            let [p, q, r, s] = self.sketch.taste.bound(dice, Width::Wide);
             self.record(b'Q', &[low(formula), high(share), low(share), p, q, r, s])?;
         }
         Ok(())
     }
 
     fn facts(&mut self, dice: &mut Dice) -> Result<(), AllocError> {
-        for _i in 0..self.shape.facts {
-            let component = dice.below(self.shape.components());
+        for _i in 0..self.sketch.shape.facts {
+            let component = dice.below(self.sketch.shape.components());
             let label = self.moving_label(dice);
-            let [p, q, r, s] = self.taste.bound(dice, Width::Narrow);
-            let from = dice.below(self.shape.last.saturating_add(1));
-            let to = dice.between(from, self.shape.last.min(from.saturating_add(2)));
+            let [p, q, r, s] = self.sketch.taste.bound(dice, Width::Narrow);
+            let from = dice.below(self.sketch.shape.last.saturating_add(1));
+            let to = dice.between(from, self.sketch.shape.last.min(from.saturating_add(2)));
             let rest = [
                 high(component),
                 low(component),

@@ -3,10 +3,9 @@ use super::bounds::{Taste, Width, low};
 use super::compare::Answers;
 use super::damage::damage;
 use super::dice::Dice;
-use super::files::{Draft, Shape};
+use super::files::{Draft, Shape, Sketch};
 use super::scales::Compared;
 use anyhow::{Context, bail};
-use book::{Quorum, Stairs};
 use house::{Cell, Fact};
 use life::{Answer, Call, replay};
 use record::{Content, read};
@@ -15,12 +14,13 @@ use scale::Recorded;
 use second::{Kind, Ledger, Set};
 use std::alloc::{AllocError, Global};
 use std::fmt;
-use workspace::{Workspace, copies, house_of};
+use workspace::{Described, Workspace, copies, describe};
 
 // A bound in a call, as four bytes, so that each program reads it in its own way.
 type Form = [u8; 4];
 
-fn random_fact(dice: &mut Dice, shape: Shape, taste: Taste) -> Fact<Form> {
+fn random_fact(dice: &mut Dice, sketch: Sketch) -> Fact<Form> {
+    let Sketch { shape, taste } = sketch;
     let from = dice.below(shape.last.saturating_add(2));
     let least = from.saturating_sub(dice.below(2));
     let to = dice.between(least, from.saturating_add(2));
@@ -55,14 +55,14 @@ fn random_look(dice: &mut Dice, shape: Shape) -> Call<Form> {
 }
 
 // A random call. Settling is common, so that most lives come to it.
-fn random_call(dice: &mut Dice, shape: Shape, taste: Taste) -> Call<Form> {
+fn random_call(dice: &mut Dice, sketch: Sketch) -> Call<Form> {
     match dice.below(12) {
-        0 | 1 | 2 => Call::File(random_fact(dice, shape, taste)),
+        0 | 1 | 2 => Call::File(random_fact(dice, sketch)),
         3 => Call::Strike(dice.below(4)),
         4 | 5 => Call::Settle,
         6 => Call::Reopen,
-        7 | 8 | 9 => random_look(dice, shape),
-        _ => Call::Entails(random_fact(dice, shape, taste)),
+        7 | 8 | 9 => random_look(dice, sketch.shape),
+        _ => Call::Entails(random_fact(dice, sketch)),
     }
 }
 
@@ -157,14 +157,15 @@ impl Life {
         let mut shape = Shape::small(dice);
         shape.facts = 0;
         let taste = Taste::roll(dice, kind);
-        let mut file = Draft::write(heap, dice, shape, taste)?;
+        let sketch = Sketch { shape, taste };
+        let mut file = Draft::write(heap, dice, sketch)?;
         if dice.once_in(8) {
             damage(heap, dice, &mut file.bytes)?;
         }
         let more = usize::from(dice.once_in(16));
         let facts = dice.between(0, 6);
         let calls = dice.between(5, 30);
-        let calls = (0..calls).map(|_i| random_call(dice, shape, taste));
+        let calls = (0..calls).map(|_i| random_call(dice, sketch));
         Ok(Life {
             file: file.bytes,
             calls: calls.collect(heap)?,
@@ -181,9 +182,7 @@ impl Life {
         tables: &Tables<S>,
     ) -> anyhow::Result<String> {
         let Content { sizes, quorum, .. } = content;
-        let house = house_of(sizes, tables);
-        let stairs: Stairs<S> = Stairs::over(tables.steps.records());
-        let Ok(book) = Quorum::new(quorum, stairs) else {
+        let Some(Described { house, book }) = describe(sizes, quorum, tables) else {
             bail!("the quorum is above 200");
         };
         let calls = self.calls.iter().map(|call| lent_call::<S>(*call));

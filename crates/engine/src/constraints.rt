@@ -14,7 +14,7 @@ use scale::Scale;
 use writes::tighten;
 
 // Applies the constraints to every component, until they grant all that is left.
-pub fn constrain_hour<S: Scale>(house: &House<S>, cells: &mut [S], hour: u8)
+pub(super) fn constrain_hour<S: Scale>(house: &House<S>, cells: &mut [S], hour: u8)
     ensures narrowed { Constrained S.Scale.size S.Scale.has house.now hour (course_of house.now.sizes S.Scale.has cells.old) (course_of house.now.sizes S.Scale.has cells.new) }
     ensures rests { components house.now.sizes ≤ 65535 → (c : ℕ) → c < components house.now.sizes → Resting S.Scale.size S.Scale.has house.now hour c (course_of house.now.sizes S.Scale.has cells.new) }
 {

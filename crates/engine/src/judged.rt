@@ -17,8 +17,8 @@ const MOST_COMPONENTS: usize = 800;
 
 // A house, and the verdicts on each of its components.
 #[derive(Drop)]
-pub struct Judged<'a, S: Scale> {
-    pub house: &'a House<'a, S>,
+pub(super) struct Judged<'a, S: Scale> {
+    pub(super) house: &'a House<'a, S>,
     verdicts: [Verdicts; MOST_COMPONENTS],
     // If there is room for all components, these are the verdicts on them.
     ghost judged: { components house.now.sizes ≤ 800 → AllJudged S.Scale.size S.Scale.has house.now verdicts },
@@ -27,7 +27,7 @@ pub struct Judged<'a, S: Scale> {
 impl<'a, S: Scale> Judged<'a, S> {
     // Works out which conditions hold on every component. Every place begins with what holds on component 0, which is
     // all that is known of the places past the last component.
-    pub fn of(house: &'a House<'a, S>) -> Judged<'a, S>
+    pub(super) fn of(house: &'a House<'a, S>) -> Judged<'a, S>
         ensures { result.house.now ≡ house.now }
     {
         let mut verdicts = [Verdicts::of(house, 0); MOST_COMPONENTS];
@@ -39,14 +39,14 @@ impl<'a, S: Scale> Judged<'a, S> {
     }
 
     // Whether a condition holds on a component.
-    pub fn holds(&self, condition: Option<u8>, component: u16) -> bool
+    pub(super) fn holds(&self, condition: Option<u8>, component: u16) -> bool
         ensures { Judgeable S.Scale.size S.Scale.has self.now.house.now → component < components self.now.house.now.sizes → result ≡ holds S.Scale.size S.Scale.has self.now.house.now condition component }
     {
         held_on(&self.verdicts, condition, component as usize)
     }
 
     // Counts the neighbours of a node for a rule at an hour.
-    pub fn neighbours(&self, cells: &[S], rule: Rule, node: Spot) -> Count
+    pub(super) fn neighbours(&self, cells: &[S], rule: Rule, node: Spot) -> Count
         ensures eligible { Judgeable S.Scale.size S.Scale.has self.now.house.now → result.eligible ≡ eligibles S.Scale.size S.Scale.has self.now.house.now rule node.component }
         ensures qualifying { Judgeable S.Scale.size S.Scale.has self.now.house.now → result.qualifying ≡ qualified S.Scale.size S.Scale.has self.now.house.now (course_of self.now.house.now.sizes S.Scale.has cells.now) rule node.hour node.component }
     {

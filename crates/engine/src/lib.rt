@@ -3,7 +3,8 @@
 // What facts, rules and carrying ask of an hour depends on earlier hours alone, and constraints act within one component
 // at one hour. So each hour is settled when the ones before it are: it begins as the hour before, loose where it is
 // touched, and is narrowed by facts, by rules and by constraints. The cells come beside the house, and `Whole` in the
-// contracts: a struct with the `&mut` would need a clause in each of them that the same cells stay lent.
+// contracts: a struct with the `&mut` would need a clause in each of them that the same cells stay lent. The book comes
+// beside the house too: the rules alone ask it, and a struct with it would be of two type parameters wherever one will do.
 #![tactic(auto)]
 
 ghost use Rattle.std.specs.Prelude.{◌≡◌, ◌+◌, ◌≤◌, min, length};

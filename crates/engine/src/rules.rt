@@ -14,7 +14,12 @@ use scale::Scale;
 use writes::narrow_cell;
 
 // Narrows the cells of an hour to what every rule grants. A rule looks at earlier hours alone.
-pub fn apply_rules<S: Scale, B: Book<S>>(judged: &Judged<S>, book: &B, cells: &mut [S], hour: u8)
+pub(super) fn apply_rules<S: Scale, B: Book<S>>(
+    judged: &Judged<S>,
+    book: &B,
+    cells: &mut [S],
+    hour: u8,
+)
     ensures { Ready S.Scale.size S.Scale.has judged.now.house.now (B.Book.formulas book.now) →
         Narrowed (course_of judged.now.house.now.sizes S.Scale.has cells.old) (at_hour hour (rules_grant S.Scale.size S.Scale.has judged.now.house.now (B.Book.says book.now) (course_of judged.now.house.now.sizes S.Scale.has cells.old) judged.now.house.now.rules.now))
         (course_of judged.now.house.now.sizes S.Scale.has cells.new) }

@@ -13,7 +13,7 @@ use scale::Scale;
 use writes::{free_cell, free_facts, repeat_hour};
 
 // Starts an hour. At hour 0 nothing is carried over, so that every cell is loose.
-pub fn start_hour<S: Scale>(judged: &Judged<S>, facts: &[Fact<S>], cells: &mut [S], hour: u8)
+pub(super) fn start_hour<S: Scale>(judged: &Judged<S>, facts: &[Fact<S>], cells: &mut [S], hour: u8)
     ensures { Judgeable S.Scale.size S.Scale.has judged.now.house.now → Whole judged.now.house.now.sizes cells.old → hour ≤ judged.now.house.now.sizes.last →
         Started S.Scale.size S.Scale.has judged.now.house.now facts.now hour (course_of judged.now.house.now.sizes S.Scale.has cells.old) (course_of judged.now.house.now.sizes S.Scale.has cells.new) }
 {

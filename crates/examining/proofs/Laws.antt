@@ -118,11 +118,11 @@ module _ {S : Type 0} (h : House S) where
         formula = ltb-true _ _ p6.1;
       }
 
--- a refused list of checks is not clear, and is refused once
-not_clear : (cs : List Check) (n i : ℕ) → FirstFails cs n i → AllClear cs → ⊥
-not_clear [] n i f all = f
-not_clear (c ∷ cs) n i f all =
-    ⊎_elim (λ h. both_ways (c.passes i) h.1.1 (all.0 i h.1.0)) (λ h. not_clear cs n i h.1 all.1) f
+-- checks that are clear refuse nothing
+pub not_clear : (cs : List Check) (n i : ℕ) → AllClear cs → FirstFails cs n i → ⊥
+not_clear [] n i all f = f
+not_clear (c ∷ cs) n i all f =
+    ⊎_elim (λ h. both_ways (c.passes i) h.1.1 (all.0 i h.1.0)) (λ h. not_clear cs n i all.1 h.1) f
 
 lowest_once : (c : Check) (i j : ℕ) → FailsAt c i → FailsAt c j → i ≡ j
 lowest_once c i j f g =
@@ -164,6 +164,6 @@ module _ {S : Type 0} (size : ℕ) (has : S → Points) where
   pub accepted_laws : AcceptedLaws size has
   accepted_laws = record {
     lawful = house_lawful;
-    refused = λ h formulas d. not_clear (checks size has h formulas) (number_of d) (place_of d);
+    refused = λ h formulas d fails all. not_clear (checks size has h formulas) (number_of d) (place_of d) all fails;
     one_refusal = λ h formulas d e. fails_once (checks size has h formulas) (number_of d) (place_of d) (number_of e) (place_of e);
   }

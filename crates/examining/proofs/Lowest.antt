@@ -1,11 +1,13 @@
 -- The lowest record that fails. Assumes nothing.
-use Rattle.std.proofs.Common.{◌≡◌, ℕ, zero, suc, ◌+◌, ◌<◌, Bool, true, false, not, cond, List, [], ◌∷◌, Some, None, Option, length, sym, refl, ◌∙◌, arith}
+use Rattle.std.proofs.Common.{◌≡◌, ℕ, zero, suc, ◌+◌, ◌<◌, Bool, true, false, not, cond, List, [], ◌∷◌, Some, None, Option, Ok, Err, Result, MatchOption, length, sym, refl, subst, ◌∙◌, arith}
 use Rattle.std.specs.List.{position, position_from}
 use Rattle.std.proofs.lemmas.List.Quantifiers.{position-Some}
 use Rattle.std.proofs.lemmas.Iterator.Adapters.{position_from-zero}
 use Rattle.points.specs.Tables.{at_place}
 use Rattle.points.proofs.Tabled.{at-get_or}
-use Rattle.examining.specs.Examine.{Lowest}
+use Rattle.examining.specs.declared.defects.Defect.{Defect}
+use Rattle.examining.specs.Defects.{number_of, place_of}
+use Rattle.examining.specs.Examine.{Check, Lowest, FailsAt, Found}
 
 pass_by : {A : Type 0} (b : Bool) (x : A) {r : Option A} → cond b (Some x) r ≡ None → (b ≡ false) × (r ≡ None)
 pass_by true x e = grind arith
@@ -37,3 +39,9 @@ module _ {A : Type 0} (p f : A → Bool) (finds : (x : A) → p x ≡ not (f x))
         at-get_or true f (y ∷ ys) i y at.0 ∙ failing _ _ (finds _) at.1,
         λ k less. at-get_or true f (y ∷ ys) k y (omega (arith, at.0)) ∙ passing _ _ (finds _) (at.2 k less),
       )
+
+-- a check that refuses the lowest place at which it fails, by a defect that has its number and that place, answers as it should
+module _ (c : Check) (make : ℕ → Defect) (number : (i : ℕ) → number_of (make i) ≡ c.number) (place : (i : ℕ) → place_of (make i) ≡ i) where
+  pub found : (o : Option ℕ) (r : Result (Unit {0}) Defect) → Lowest c.extent c.passes o → MatchOption o (r ≡ Ok tt) (λ i. r ≡ Err (make i)) → Found c r
+  found None r low e = subst (Found c) (sym e) low
+  found (Some i) r low e = subst (Found c) (sym e) (number i, subst (FailsAt c) (sym (place i)) low)

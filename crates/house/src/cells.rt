@@ -70,4 +70,15 @@ impl<S: Copy> Fact<S> {
         let hours = self.from <= self.to && sizes.has_hour(self.to);
         sizes.has_component(self.component) && sizes.moves(self.label) && hours
     }
+
+    // The cell that a fact is about at an hour.
+    pub fn cell(&self, hour: u8) -> Cell
+        ensures { result ≡ record { hour = hour; component = self.now.component; label = self.now.label } }
+    {
+        Cell {
+            hour,
+            component: self.component,
+            label: self.label,
+        }
+    }
 }

@@ -1,12 +1,12 @@
 -- What reads of tables and cells come to. Assumes nothing.
-use Rattle.std.proofs.Common.{◌≡◌, ℕ, ◌<◌, ◌≤◌, Bool, true, false, not, ◌&&◌, List, Some, None, Option, unwrap_or, Bor, sym, refl, ◌∙◌}
-use Rattle.std.specs.Prelude.{option_map, option_copied}
+use Rattle.std.proofs.Common.{◌≡◌, ℕ, ◌<◌, ◌≤◌, Bool, true, false, not, ◌&&◌, List, Some, None, Option, Bor, sym, refl, ◌∙◌}
+use Rattle.std.specs.Prelude.{option_copied}
 use Rattle.std.specs.Slice.{IsItemAt}
 use Rattle.std.proofs.lemmas.Bool.{true≢false, lt-ltb, le-ltb, cond-true, cond-false}
 use Rattle.points.specs.Points.{Points, Same, within, void}
 use Rattle.points.proofs.Decided.{each_from, implies_from, same_test}
 use Rattle.points.specs.Tables.{at_place}
-use Rattle.points.proofs.Tabled.{at_read, at_else}
+use Rattle.points.proofs.Tabled.{at_got}
 use Rattle.house.specs.declared.tables.House.{House}
 use Rattle.house.specs.declared.tables.Test.{Test}
 use Rattle.house.specs.declared.tables.Sizes.{Sizes}
@@ -15,11 +15,6 @@ use Rattle.fitting.specs.Course.{Course, course_of}
 use Rattle.fitting.specs.Tests.{meets, fixed_at, seen}
 use Rattle.fitting.proofs.Narrow.{meets_mono}
 use Rattle.judge.specs.Judged.{points_of, bound_at}
-
--- what `get` gives of a table decides what a test says of that place
-pub at_got : {A : Type 0} (d : Bool) (f : A → Bool) (xs : List A) (i : ℕ) (r : Option (Bor A)) → IsItemAt xs i r → at_place d f xs i ≡ unwrap_or (option_map (λ x. f x.now) r) d
-at_got d f xs i None got = at_else d f xs i got.3
-at_got d f xs i (Some x) got = at_read d f xs i x.now got.3.0 got.1
 
 none_within : (n : ℕ) (bound : Points) → within n (λ p. false) bound ≡ true
 unfolding within

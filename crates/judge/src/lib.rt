@@ -1,7 +1,8 @@
 // Tests, bodies, conditions and neighbours on a course.
 //
 // Nothing is asked of what is handed in: where a table or the cells have no such place there is no point, and the
-// definitions say what follows.
+// definitions say what follows. House, cells and spot come side by side: settling writes to the cells between two
+// questions, so that a struct of the three would be made anew for each.
 #![tactic(auto)]
 
 ghost use Rattle.std.specs.Prelude.{◌≡◌, ℕ, true, false};

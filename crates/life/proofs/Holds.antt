@@ -20,7 +20,8 @@ use Rattle.plan.specs.Refusals.{number_of, place_of}
 use Rattle.plan.specs.Orders.{table_holds, facts_fit, course_long, file_checks, strike_checks, settle_checks}
 use Rattle.plan.specs.Courses.{Settles}
 use Rattle.plan.specs.Calls.{FileDoes, StrikeDoes, SettleDoes}
-use Rattle.plan.proofs.Checked.{not_clear, clear_append, once_use, once_clear, IsInside, AllInside, inside_clear, inside_removed}
+use Rattle.examining.proofs.Laws.{not_clear}
+use Rattle.plan.proofs.Checked.{clear_append, once_use, once_clear, IsInside, AllInside, inside_clear, inside_removed}
 use Rattle.life.specs.declared.calls.Plan.{Plan}
 use Rattle.life.specs.declared.calls.Plan.TheVariants.{Draft as Open, Settled as Firm}
 use Rattle.life.specs.declared.calls.Call.{Call}

@@ -19,7 +19,8 @@ use Rattle.plan.specs.Refusals.{number_of, place_of}
 use Rattle.plan.specs.Orders.{look_checks, entails_checks, settle_checks}
 use Rattle.plan.specs.Courses.{Satisfies, Fitting, Settles}
 use Rattle.plan.specs.Calls.{Stands, SettleDoes, LookDoes, EntailsDoes}
-use Rattle.plan.proofs.Checked.{not_clear, once_clear, IsInside}
+use Rattle.examining.proofs.Laws.{not_clear}
+use Rattle.plan.proofs.Checked.{once_clear, IsInside}
 use Rattle.life.specs.declared.calls.Plan.{Plan}
 use Rattle.life.specs.declared.calls.Plan.TheVariants.{Draft as Open, Settled as Firm}
 use Rattle.life.specs.declared.calls.Call.{Call}

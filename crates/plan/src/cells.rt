@@ -34,12 +34,7 @@ fn satisfied_at<S: Scale>(sizes: Sizes, course: &[S], fact: &Fact<S>, hour: u8) 
     requires { length course.now ≡ cell_count sizes }
     ensures { Iff (result ≡ true) (SatisfiesAt S.Scale.has sizes (course_of sizes S.Scale.has course.now) fact.now hour) }
 {
-    let cell = Cell {
-        hour,
-        component: fact.component,
-        label: fact.label,
-    };
-    let Some(place) = sizes.place(cell) else {
+    let Some(place) = sizes.place(fact.cell(hour)) else {
         return true;
     };
     course[place].within(fact.bound)

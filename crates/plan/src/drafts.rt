@@ -28,6 +28,7 @@ impl Draft {
         require(fact.inside(sizes), Refusal::Outside { at: 0 })?;
         require(self.count <= facts.len(), Refusal::Short)?;
         require(self.count < facts.len(), Refusal::Full)?;
+        // By index: after a loan of the table, as by `get_mut`, a proof no longer knows what it holds.
         facts[self.count] = fact;
         self.count += 1;
         Ok(())

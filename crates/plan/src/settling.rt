@@ -23,10 +23,7 @@ fn outside<S: Scale>(sizes: Sizes, filed: &[Fact<S>]) -> Option<usize>
 fn check_facts<S: Scale>(sizes: Sizes, filed: &[Fact<S>]) -> Result<(), Refusal>
     ensures { Checked (facts_fit sizes filed.now ∷ []) result }
 {
-    match outside(sizes, filed) {
-        Some(at) => Err(Refusal::Outside { at }),
-        None => Ok(()),
-    }
+    outside(sizes, filed).map_or(Ok(()), |at| Err(Refusal::Outside { at }))
 }
 
 // Whether a plan of `count` facts can be settled on a course of `long` cells.

@@ -1,5 +1,7 @@
 -- What the tests over a table say. Assumes nothing.
-use Rattle.std.proofs.Common.{◌≡◌, ℕ, zero, suc, ◌<◌, ◌≤◌, Bool, true, false, List, [], ◌∷◌, length, get_or, sym, refl, ap, subst, arith}
+use Rattle.std.proofs.Common.{◌≡◌, ℕ, zero, suc, ◌<◌, ◌≤◌, Bool, true, false, List, [], ◌∷◌, Some, None, Option, MatchOption, unwrap_or, Bor, length, get_or, sym, refl, ap, ◌∙◌, subst, arith}
+use Rattle.std.specs.Prelude.{option_map}
+use Rattle.std.specs.Slice.{IsItemAt}
 use Rattle.std.proofs.lemmas.Bool.{and_parts, and_from, or_parts, or_from}
 use Rattle.points.specs.Tables.{Every, at_place, all_pass, one_passes}
 
@@ -42,6 +44,17 @@ unfolding at_place
 at_else d f [] i l = refl
 at_else d f (y ∷ ys) zero l = absurd (omega arith)
 at_else d f (y ∷ ys) (suc i) l = at_else d f ys i (omega arith)
+
+-- what `get` gives of a table decides what a test says of that place
+pub at_got : {A : Type 0} (d : Bool) (f : A → Bool) (xs : List A) (i : ℕ) (r : Option (Bor A)) → IsItemAt xs i r → at_place d f xs i ≡ unwrap_or (option_map (λ x. f x.now) r) d
+at_got d f xs i None got = at_else d f xs i got.3
+at_got d f xs i (Some x) got = at_read d f xs i x.now got.3.0 got.1
+
+-- a test that is asked of what `get` gives, where that is there, answers for that place
+pub got_tells : {A : Type 0} (d : Bool) (f : A → Bool) (xs : List A) (i : ℕ) (r : Option (Bor A)) (b : Bool) → IsItemAt xs i r →
+    MatchOption r (b ≡ d) (λ x. b ≡ f x.now) → b ≡ at_place d f xs i
+got_tells d f xs i None b got e = e ∙ sym (at_else d f xs i got.3)
+got_tells d f xs i (Some x) b got e = e ∙ sym (at_read d f xs i x.now got.3.0 got.1)
 
 -- a test with an absent record passing says: the record, if it is there, passes
 pub at_from : {A : Type 0} (f : A → Bool) (xs : List A) (i : ℕ) → (i < length xs → (x : A) → x ≡ get_or xs i x → f x ≡ true) → at_place true f xs i ≡ true

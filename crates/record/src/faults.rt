@@ -106,14 +106,14 @@ impl From<Defect> for Fault {
 
 // The fault of a record, whichever it is.
 #[derive(Clone, Copy, PartialEq, Eq, Debug)]
-pub enum RecordFault {
+pub(super) enum RecordFault {
     Line(LineFault),
     Entry(EntryFault),
 }
 
 impl RecordFault {
     // The fault of the record with this number.
-    pub fn at(self, at: usize) -> Fault
+    pub(super) fn at(self, at: usize) -> Fault
         ensures { result ≡ placed self at }
     {
         match self {

@@ -13,7 +13,7 @@ use scale::Recorded;
 
 // How many places the fixed bounds have in a table of this length: one for each fixed label of each component, or all if
 // there are fewer.
-pub fn fixed_places(sizes: Sizes, long: usize) -> usize
+pub(super) fn fixed_places(sizes: Sizes, long: usize) -> usize
     ensures { result ≡ fixed_places_lem sizes long }
 {
     (sizes.components() * usize::from(sizes.fixed)).min(long)

@@ -34,6 +34,11 @@ abbrev pub LooseAt : {B : Type 0} → ℕ → (B → Points) → List B → ℕ 
 LooseAt {B} n has fixed p = (x : B) → x ≡ slice_index_or fixed p x → Loose n (has x)
 
 module _ {B : Type 0} (n : ℕ) (has : B → Points) where
+  -- the place of a fixed bound, where that can take one
+  abbrev pub OpenPlace : Sizes → ℕ → ℕ → List B → Option ℕ → Type 0
+  OpenPlace s c l t (Some p) = (p ≡ fixed_place s c l) × Open s c l (length t) (LooseAt n has t)
+  OpenPlace s c l t None = Open s c l (length t) (LooseAt n has t) → ⊥
+
   -- a bound stands at its place, where that can take one; else the table stays as it is
   abbrev pub LayDoes : Sizes → ℕ → ℕ → B → List B → Result (Unit {0}) EntryFault → List B → Type 0
   LayDoes s c l b t (Ok _) t' = Open s c l (length t) (LooseAt n has t) × (t' ≡ slice_set t (fixed_place s c l) b)

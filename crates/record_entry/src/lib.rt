@@ -5,7 +5,7 @@
 
 ghost use Rattle.std.specs.Prelude.{◌≡◌, true};
 ghost use Rattle.points.specs.Points.{Iff, Loose};
-ghost use Rattle.record_entry.specs.Entries.{Lent, LayDoes, EnterDoes};
+ghost use Rattle.record_entry.specs.Entries.{Lent, OpenPlace, LayDoes, EnterDoes};
 ghost use Rattle.record_entry.specs.declared.EntryFault.TheVariants.{Plan as PlanCase};
 
 use book::Stair;
@@ -47,7 +47,17 @@ impl From<Refusal> for EntryFault {
     }
 }
 
-// Lays a fixed bound on its place, if that is in the house and in the table, and loose still.
+// The place of a fixed bound, if that is in the house and in the table, and loose still.
+fn open_place<S: Scale>(fixed: &Shelf<S>, sizes: Sizes, component: u16, label: u8) -> Option<usize>
+    ensures { OpenPlace S.Scale.size S.Scale.has sizes component label fixed.now.table.now result }
+{
+    let place = usize::from(component) * usize::from(sizes.fixed) + usize::from(label);
+    let bound = fixed.table.get(place)?;
+    let in_house = sizes.has_component(component) && label < sizes.fixed;
+    (in_house && bound.is_loose()).then_some(place)
+}
+
+// Lays a fixed bound on its place, if that can take one.
 fn lay<S: Scale>(
     fixed: &mut Shelf<S>,
     sizes: Sizes,
@@ -59,12 +69,10 @@ fn lay<S: Scale>(
     ensures count { fixed.new.count ≡ fixed.old.count }
     ensures lent { fixed.new.table.ghost_name ≡ fixed.old.table.ghost_name }
 {
-    let place = usize::from(component) * usize::from(sizes.fixed) + usize::from(label);
-    let in_house = sizes.has_component(component) && label < sizes.fixed;
-    // By index: after a loan of the table, as by `get`, a proof no longer knows what it holds.
-    if !in_house || place >= fixed.table.len() || !fixed.table[place].is_loose() {
+    let Some(place) = open_place(fixed, sizes, component, label) else {
         return Err(EntryFault::House);
-    }
+    };
+    // By index: after a loan of the table, as by `get_mut`, a proof no longer knows what it holds.
     fixed.table[place] = bound;
     Ok(())
 }

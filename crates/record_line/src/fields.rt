@@ -10,7 +10,7 @@ use house::{Body, Condition, Constraint, Edge, Fact, Kind, Rule, Test};
 const NO_CONDITION: u8 = 255;
 
 // An edge, of E.
-pub fn edge(line: &[u8; 16]) -> Edge
+pub(super) fn edge(line: &[u8; 16]) -> Edge
     ensures from { result.from ≡ word line.now 1 }
     ensures to { result.to ≡ word line.now 3 }
 {
@@ -22,16 +22,16 @@ pub fn edge(line: &[u8; 16]) -> Edge
 }
 
 // A test of this bound, of T.
-pub fn test<S>(line: &[u8; 16], bound: S) -> Test<S>
+pub(super) fn test<S>(line: &[u8; 16], bound: S) -> Test<S>
     ensures label { result.label ≡ byte line.now 1 }
     ensures bound { result.bound ≡ bound }
 {
-    let label = line[1];
+    let [_, label, ..] = *line;
     Test { label, bound }
 }
 
 // A condition, of C.
-pub fn condition(line: &[u8; 16]) -> Condition
+pub(super) fn condition(line: &[u8; 16]) -> Condition
     ensures kind { result.kind ≡ kind_of (byte line.now 1) }
     ensures a { result.a ≡ byte line.now 2 }
     ensures b { result.b ≡ byte line.now 3 }
@@ -42,7 +42,7 @@ pub fn condition(line: &[u8; 16]) -> Condition
 }
 
 // A constraint, of K.
-pub fn constraint(line: &[u8; 16]) -> Constraint
+pub(super) fn constraint(line: &[u8; 16]) -> Constraint
     ensures head { result.head ≡ byte line.now 1 }
     ensures first { result.body.first ≡ byte line.now 2 }
     ensures count { result.body.count ≡ byte line.now 3 }
@@ -60,7 +60,7 @@ fn named(number: u8) -> Option<u8>
 }
 
 // A rule, of R.
-pub fn rule(line: &[u8; 16]) -> Rule
+pub(super) fn rule(line: &[u8; 16]) -> Rule
     ensures target { result.target ≡ byte line.now 1 }
     ensures delay { result.delay ≡ byte line.now 2 }
     ensures onto { result.onto ≡ named_condition (byte line.now 3) }
@@ -94,7 +94,7 @@ pub fn rule(line: &[u8; 16]) -> Rule
 }
 
 // A step of this bound, of Q.
-pub fn step<S>(line: &[u8; 16], bound: S) -> Stair<S>
+pub(super) fn step<S>(line: &[u8; 16], bound: S) -> Stair<S>
     ensures formula { result.formula ≡ byte line.now 1 }
     ensures share { result.share ≡ word line.now 2 }
     ensures bound { result.bound ≡ bound }
@@ -108,7 +108,7 @@ pub fn step<S>(line: &[u8; 16], bound: S) -> Stair<S>
 }
 
 // A fact of this bound, of F.
-pub fn fact<S>(line: &[u8; 16], bound: S) -> Fact<S>
+pub(super) fn fact<S>(line: &[u8; 16], bound: S) -> Fact<S>
     ensures component { result.component ≡ word line.now 1 }
     ensures label { result.label ≡ byte line.now 3 }
     ensures bound { result.bound ≡ bound }

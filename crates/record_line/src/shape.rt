@@ -28,7 +28,7 @@ fn clear(line: &[u8; 16], from: usize) -> bool
 
 // Whether the bytes have the shape of a record: a known letter, and 0 in the bytes that it does not name. The bytes 2 and
 // 3 of T have no name, and the quorum of S has a limit.
-pub fn has_shape(line: &[u8; 16]) -> bool
+pub(super) fn has_shape(line: &[u8; 16]) -> bool
     ensures { IsTrue result ↔ Formed line.now }
 {
     let end = named_end(line[0]);

@@ -5,7 +5,7 @@ ghost use Rattle.std.specs.Prelude.{◌≡◌, IfOk, OnOk, string_bytes};
 ghost use Rattle.report.specs.Text.{Texted, Concluded, Told, Reported, Ran};
 
 use anyhow::bail;
-use book::{Book, Quorum, Stairs};
+use book::Book;
 use house::{Fact, House};
 use listing::listing;
 use plan::{Draft, Outcome};
@@ -14,7 +14,7 @@ use record_entry::Tables;
 use scale::{Recorded, Scale};
 use std::alloc::Global;
 use std::io::{Read, Write};
-use workspace::{Workspace, copies, house_of};
+use workspace::{Described, Workspace, copies, describe};
 
 // How many cells are held at most.
 const CELLS: usize = 8192;
@@ -52,9 +52,7 @@ fn conclude<S: Recorded>(
         sizes,
         quorum,
     } = content;
-    let house = house_of(sizes, tables);
-    let stairs: Stairs<S> = Stairs::over(tables.steps.records());
-    let Ok(book) = Quorum::new(quorum, stairs) else {
+    let Some(Described { house, book }) = describe(sizes, quorum, tables) else {
         bail!("the quorum is above 200");
     };
     let mut course = copies(heap, S::loose(), sizes.cells().min(CELLS))?;

@@ -20,7 +20,7 @@ pub enum Call {
 
 // What a call answers, if it is not refused.
 #[derive(Clone, Copy, PartialEq, Eq, Debug)]
-enum Reply {
+pub(crate) enum Reply {
     Filed,
     Struck,
     Settled,

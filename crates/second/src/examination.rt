@@ -55,7 +55,7 @@ fn refuse(reason: Option<Refusal>) -> Result<(), Refusal> {
 }
 
 // The first check that fails. Sizes and lengths are right in a network that was read.
-pub fn examine(network: &Network) -> Result<(), Refusal> {
+pub(crate) fn examine(network: &Network) -> Result<(), Refusal> {
     let mut edges = network.edges.iter().enumerate();
     let edge = edges.position(|(i, edge)| !edge_stands(network, i, edge));
     refuse(edge.map(Refusal::Edge))?;

@@ -205,7 +205,7 @@ impl Present<'_> {
 }
 
 // The course at which repeated joint steps from the loosest one come to rest.
-pub fn settle(heap: Global, network: &Network) -> Result<Vec<Set>, AllocError> {
+pub(crate) fn settle(heap: Global, network: &Network) -> Result<Vec<Set>, AllocError> {
     let verdicts = Verdicts::of(heap, network)?;
     let mut course = network.loosest(heap)?;
     // Counted, so that it is proved to end. Each turn but the last takes points away, and there are far fewer than that.

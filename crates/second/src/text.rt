@@ -1,4 +1,5 @@
 // The text for a record file.
+use super::calls::Reply;
 use super::examination::examine;
 use super::network::Network;
 use super::reading::read;
@@ -33,7 +34,10 @@ fn conclude(heap: Global, kind: Kind, bytes: &[u8]) -> Result<String, Stop> {
     }
     let course = settle(heap, &network)?;
     match network.first_void(&course) {
-        Some(cell) => Ok(format!(in heap; "contradiction {cell}\n")?),
+        Some(cell) => {
+            let reply = Reply::Contradiction(cell);
+            Ok(format!(in heap; "{reply}\n")?)
+        }
         None => Ok(listing(heap, &network, &course)?),
     }
 }

@@ -1,7 +1,7 @@
 // Settling the plan of a record file, and timing it.
 use super::digests::{digest, narrow_cells};
 use anyhow::bail;
-use book::{Book, Quorum, Stairs};
+use book::Book;
 use house::{Fact, House};
 use plan::{Clash, Draft, Outcome, Refusal};
 use record::{Content, read};
@@ -9,7 +9,7 @@ use record_entry::Tables;
 use scale::{Recorded, Scale};
 use std::fmt;
 use std::time::Instant;
-use workspace::{Workspace, copies, house_of};
+use workspace::{Described, Workspace, copies, describe};
 
 // What settling came to.
 #[derive(Clone, Copy)]
@@ -78,9 +78,7 @@ fn conclude<S: Recorded>(
         sizes,
         quorum,
     } = content;
-    let house = house_of(sizes, tables);
-    let stairs: Stairs<S> = Stairs::over(tables.steps.records());
-    let Ok(book) = Quorum::new(quorum, stairs) else {
+    let Some(Described { house, book }) = describe(sizes, quorum, tables) else {
         bail!("the quorum is above 200");
     };
     let mut course = copies(rt.alloc(), S::loose(), sizes.cells())?;

@@ -1,10 +1,11 @@
 -- What a program has room for, and the house that its tables describe.
-use Rattle.std.specs.Prelude.{◌≡◌, take, vec_len}
+use Rattle.std.specs.Prelude.{◌≡◌, ℕ, ◌<◌, ◌≤◌, take, vec_len, Some, None, Option}
 use Rattle.house.specs.declared.tables.House.{House}
 use Rattle.house.specs.declared.tables.Sizes.{Sizes}
 use Rattle.record_entry.specs.declared.Tables.{Tables}
 use Rattle.record_entry.specs.Entries.{counts_of}
 use Rattle.workspace.specs.declared.Workspace.{Workspace}
+use Rattle.workspace.specs.declared.Described.{Described}
 
 -- room for 600 edges, all fixed bounds of the largest house, 64 tests, conditions, constraints and rules, 256 steps and
 -- 1,000 facts
@@ -39,3 +40,14 @@ pub record Housed {S : Type 0} (s : Sizes) (t : Tables S) (h : House S) : Type 0
   pub conditions : h.conditions.now ≡ take t.conditions.count t.conditions.table.now
   pub constraints : h.constraints.now ≡ take t.constraints.count t.constraints.table.now
   pub rules : h.rules.now ≡ take t.rules.count t.rules.table.now
+
+-- a house that a file describes, with the book of the stairs that were read, under a quorum
+pub record Describes {S : Type 0} (s : Sizes) (least : ℕ) (t : Tables S) (d : Described S) : Type 0 where
+  pub house : Housed s t d.house
+  pub steps : d.book.book.steps.now ≡ take t.steps.count t.steps.table.now
+  pub quorum : d.book.least ≡ least
+
+-- a file describes them where its quorum is at most 200
+abbrev pub DescribedBy : {S : Type 0} → Sizes → ℕ → Tables S → Option (Described S) → Type 0
+DescribedBy s quorum t None = 200 < quorum
+DescribedBy s quorum t (Some d) = Describes s quorum t d × (quorum ≤ 200)

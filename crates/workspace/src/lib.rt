@@ -2,9 +2,9 @@
 #![tactic(auto)]
 
 ghost use Rattle.std.specs.Prelude.{◌≡◌, replicate, IfOk};
-ghost use Rattle.workspace.specs.Spaces.{Roomy, Housed, Lent};
+ghost use Rattle.workspace.specs.Spaces.{Roomy, Housed, DescribedBy, Lent};
 
-use book::Stair;
+use book::{Quorum, Stair, Stairs};
 use house::{Body, Condition, Constraint, Edge, Fact, House, Kind, Rule, Sizes, Test};
 use record_entry::{Shelf, Tables};
 use scale::Scale;
@@ -75,6 +75,8 @@ impl<S: Scale> Workspace<S> {
     }
 }
 
+// Blank records, to fill the room with. They are no defaults of their types: a test or a rule with numbers that nobody
+// chose means nothing.
 fn blank_test<S: Scale>() -> Test<S> {
     Test {
         label: 0,
@@ -132,6 +134,27 @@ pub fn copies<T: Copy>(heap: Global, x: T, n: usize) -> Result<Vec<T>, AllocErro
     ensures { IfOk result (λ v. v.items ≡ replicate n x) }
 {
     (0..n).map(|_i| x).collect(heap)
+}
+
+// What a file describes: a house, and the book of its stairs under its quorum.
+#[derive(Drop)]
+pub struct Described<'a, S> {
+    pub house: House<'a, S>,
+    pub book: Quorum<Stairs<'a, S>>,
+}
+
+// What the records that were read describe, with these sizes and this quorum. None where the quorum is above 200.
+pub fn describe<'a, S: Scale>(
+    sizes: Sizes,
+    quorum: u8,
+    tables: &'a Tables<'_, S>,
+) -> Option<Described<'a, S>>
+    ensures { DescribedBy sizes quorum tables.now result }
+{
+    let stairs = Stairs::over(tables.steps.records());
+    let book = Quorum::new(quorum, stairs).ok()?;
+    let house = house_of(sizes, tables);
+    Some(Described { house, book })
 }
 
 // The house of these sizes whose tables are the records that were read.

@@ -15,7 +15,8 @@ ghost use Rattle.writes.specs.Written.{Whole, Narrowed, on_cell, at_hour, facts_
 use house::{Cell, Fact, Sizes};
 use scale::Scale;
 
-// Where the entry of a cell stands, if there is such a cell and it has an entry.
+// Where the entry of a cell stands, if there is such a cell and it has an entry. A place, and no loan of the entry: after
+// one, as by `get_mut`, a proof no longer knows what the other cells hold. So the cells are written by index.
 fn entry<S: Scale>(sizes: Sizes, cells: &[S], cell: Cell) -> Option<usize>
     ensures { Entered sizes (length cells.now) cell result }
 {
@@ -62,11 +63,8 @@ pub fn free_cell<S: Scale>(sizes: Sizes, cells: &mut [S], cell: Cell)
 fn covered_cell<S: Scale>(fact: &Fact<S>, hour: u8) -> Option<Cell>
     ensures { Covered fact.now hour result }
 {
-    (fact.from..=fact.to).contains(&hour).then_some(Cell {
-        hour,
-        component: fact.component,
-        label: fact.label,
-    })
+    let covers = (fact.from..=fact.to).contains(&hour);
+    covers.then_some(fact.cell(hour))
 }
 
 // Narrows the cell that a fact covers at an hour, if it covers one, to the fact's bound.

@@ -1,6 +1,7 @@
 use Rattle.std.proofs.Common.{sym, false, None}
 use Rattle.fitting.specs.Tests.{test_met_lem}
-use Rattle.judge.proofs.TableReads.{at_got, met_read}
+use Rattle.points.proofs.Tabled.{at_got}
+use Rattle.judge.proofs.TableReads.{met_read}
 use Rattle.judge.proofs.test_met.Goals as goal
 
 pub returns-in_default : goal.returns-in_default

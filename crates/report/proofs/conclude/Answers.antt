@@ -6,10 +6,11 @@ use Rattle.report.proofs.conclude.Goals as goal
 
 pub returns : goal.returns
 returns g c =
+    let described = c.in-Some.ensures.0 in
     IfOk-weaker c.settled_text.result _ _
-    (λ s. concluded g.S.Scale.size g.S.Scale.has g.S.Recorded.form c.args.content c.args.tables.now _ c.deref_mut.result.now _ c.in-Ok.book.book.steps.now c.in-Ok.book.least
-    c.house_of-house.ensures
+    (λ s. concluded g.S.Scale.size g.S.Scale.has g.S.Recorded.form c.args.content c.args.tables.now _ c.deref_mut.result.now _ _ _
+    described.house
     (ap length (c.deref_mut.ensures.value ∙ c.in_ok-course.ensures) ∙ (length-replicate _ _ ∙ (c.min.ensures ∙ ap (λ k. min k 8192) c.cells.ensures)))
-    (ap (λ b. b.steps.now) c.in-Ok.ensures.1 ∙ (ap (λ l. l.now) c.over-stairs.ensures ∙ c.records.ensures))
-    c.in-Ok.ensures.0)
+    described.steps
+    described.quorum)
     c.settled_text.ensures

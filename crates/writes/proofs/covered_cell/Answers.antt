@@ -13,5 +13,5 @@ covered_is f hour false e = λ c l. grind (arith, nat_tests)
 
 pub returns : goal.returns
 returns g c =
-    let e : c.contains.result ≡ (leb c.args.fact.now.from c.args.hour && leb c.args.hour c.args.fact.now.to) = search (rules, tests) in
-    rw c.then_some.ensures (covered_is c.args.fact.now c.args.hour c.contains.result e)
+    let e : c.contains-covers.result ≡ (leb c.args.fact.now.from c.args.hour && leb c.args.hour c.args.fact.now.to) = search (rules, tests) in
+    rw (c.then_some.ensures, c.cell.ensures) (covered_is c.args.fact.now c.args.hour c.contains-covers.result e)

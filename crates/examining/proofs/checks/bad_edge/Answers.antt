@@ -6,23 +6,23 @@ use Rattle.points.proofs.Tabled.{at-get_or}
 use Rattle.examining.specs.Checks.{edge_passes, new_pair}
 use Rattle.examining.proofs.checks.bad_edge.Goals as goal
 
-pub loop-before-init : goal.loop-before-init
+pub loop-earlier-init : goal.loop-earlier-init
 unfolding new_pair
-loop-before-init c = each_none _
+loop-earlier-init c = each_none _
 
-pub loop-before-preserved : goal.loop-before-preserved
+pub loop-earlier-preserved : goal.loop-earlier-preserved
 unfolding new_pair
-loop-before-preserved c =
+loop-earlier-preserved c =
     let long = length-take-le c.loop-at.at c.args.edges.now (omega arith) in
-    let same = rw (get_or-take c.loop-at.at c.args.edges.now c.loop-before.before (record { from = 0; to = 0 }) (omega (arith, long))) at c.if-eq.ensures in
-    each_more _ _ c.loop-before.invariant (at-get_or true _ c.args.edges.now c.loop-before.before _ (omega (arith, long)) ∙ not_from_false _ (sym same))
+    let same = rw (get_or-take c.loop-at.at c.args.edges.now c.loop-earlier.earlier-index (record { from = 0; to = 0 }) (omega (arith, long))) at c.if-eq.ensures in
+    each_more _ _ c.loop-earlier.invariant (at-get_or true _ c.args.edges.now c.loop-earlier.earlier-index _ (omega (arith, long)) ∙ not_from_false _ (sym same))
 
 pub loop-at-preserved : goal.loop-at-preserved
 unfolding edge_passes
 loop-at-preserved c =
-    let e : c.loop-before.before ≡ c.loop-at.at = omega (arith, length-take-le c.loop-at.at c.args.edges.now (omega arith)) in
+    let e : c.loop-earlier.earlier-index ≡ c.loop-at.at = omega (arith, length-take-le c.loop-at.at c.args.edges.now (omega arith)) in
     below_more _ _ c.loop-at.invariant
-    (at-get_or true _ c.args.edges.now c.loop-at.at _ c.loop-at-test.true ∙ and_from _ _ (sym c.if-not-joins_nodes.ensures) (rw e at c.loop-before.invariant))
+    (at-get_or true _ c.args.edges.now c.loop-at.at _ c.loop-at-test.true ∙ and_from _ _ (sym c.if-not-joins_nodes.ensures) (rw e at c.loop-earlier.invariant))
 
 pub returns-then-not-joins_nodes : goal.returns-then-not-joins_nodes
 unfolding edge_passes
@@ -36,12 +36,12 @@ pub returns-then-eq : goal.returns-then-eq
 unfolding edge_passes new_pair
 returns-then-eq c =
     let long = length-take-le c.loop-at.at c.args.edges.now (omega arith) in
-    let same = rw (get_or-take c.loop-at.at c.args.edges.now c.loop-before.before (record { from = 0; to = 0 }) (omega (arith, long))) at c.if-eq.ensures in (
+    let same = rw (get_or-take c.loop-at.at c.args.edges.now c.loop-earlier.earlier-index (record { from = 0; to = 0 }) (omega (arith, long))) at c.if-eq.ensures in (
       c.loop-at-test.true,
       at-get_or true _ c.args.edges.now c.loop-at.at _ c.loop-at-test.true
           ∙ and_right _ _
           (sym
-          (each_stops c.loop-at.at _ c.loop-before.before (omega (arith, long))
-          (at-get_or true _ c.args.edges.now c.loop-before.before _ (omega (arith, long)) ∙ not_from_true _ (sym same)))),
+          (each_stops c.loop-at.at _ c.loop-earlier.earlier-index (omega (arith, long))
+          (at-get_or true _ c.args.edges.now c.loop-earlier.earlier-index _ (omega (arith, long)) ∙ not_from_true _ (sym same)))),
       c.loop-at.invariant,
     )

@@ -1,12 +1,12 @@
-use Rattle.std.proofs.Common.{sym, refl, ◌∙◌, arith}
+use Rattle.std.proofs.Common.{rules, refl, arith}
+use Rattle.examining.specs.declared.defects.Defect.TheVariants.{Fixed as FixedCase}
 use Rattle.examining.specs.Checks.{fixed_passes}
-use Rattle.examining.proofs.Lowest.{lowest_position}
+use Rattle.examining.specs.Examine.{fixed_check}
+use Rattle.examining.proofs.Lowest.{lowest_position, found}
 use Rattle.examining.proofs.checks.check_fixed.Goals as goal
 
-pub returns-in-Some : goal.returns-in-Some
+pub returns : goal.returns
 unfolding fixed_passes
-returns-in-Some g c = (refl, lowest_position _ _ (λ x. grind arith) c.args.fixed.now _ (sym c.in-Some.is ∙ c.bad_fixed.ensures))
-
-pub returns-in-None : goal.returns-in-None
-unfolding fixed_passes
-returns-in-None g c = lowest_position _ _ (λ x. grind arith) c.args.fixed.now _ (sym c.in-None.is ∙ c.bad_fixed.ensures)
+returns g c =
+    found (fixed_check g.S.Scale.size g.S.Scale.has c.args.fixed.now) FixedCase (λ i. refl) (λ i. refl) c.bad_fixed.result c.map_or.result
+    (lowest_position _ _ (λ b. grind arith) c.args.fixed.now _ c.bad_fixed.ensures) (search rules)

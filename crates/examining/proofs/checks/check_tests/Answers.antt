@@ -1,12 +1,12 @@
-use Rattle.std.proofs.Common.{sym, refl, ◌∙◌}
+use Rattle.std.proofs.Common.{rules, refl}
+use Rattle.examining.specs.declared.defects.Defect.TheVariants.{Test as TestCase}
 use Rattle.examining.specs.Checks.{test_passes}
-use Rattle.examining.proofs.Lowest.{lowest_position}
+use Rattle.examining.specs.Examine.{test_check}
+use Rattle.examining.proofs.Lowest.{lowest_position, found}
 use Rattle.examining.proofs.checks.check_tests.Goals as goal
 
-pub returns-in-Some : goal.returns-in-Some
+pub returns : goal.returns
 unfolding test_passes
-returns-in-Some g c = (refl, lowest_position _ _ (λ x. refl) c.args.tests.now _ (sym c.in-Some.is ∙ c.bad_test.ensures))
-
-pub returns-in-None : goal.returns-in-None
-unfolding test_passes
-returns-in-None g c = lowest_position _ _ (λ x. refl) c.args.tests.now _ (sym c.in-None.is ∙ c.bad_test.ensures)
+returns g c =
+    found (test_check c.args.sizes c.args.tests.now) TestCase (λ i. refl) (λ i. refl) c.bad_test.result c.map_or.result
+    (lowest_position _ _ (λ t. refl) c.args.tests.now _ c.bad_test.ensures) (search rules)

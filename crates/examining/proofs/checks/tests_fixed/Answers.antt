@@ -1,12 +1,11 @@
-use Rattle.std.proofs.Common.{rules, false, sym}
-use Rattle.points.proofs.Tabled.{at_read, at_else}
+use Rattle.std.proofs.Common.{false, rules}
+use Rattle.points.proofs.Tabled.{got_tells}
+use Rattle.std.specs.Prelude.{nat_lt}
 use Rattle.examining.specs.Checks.{tests_fixed_lem}
 use Rattle.examining.proofs.checks.tests_fixed.Goals as goal
 
-pub returns-in-Some : goal.returns-in-Some
+pub returns : goal.returns
 unfolding tests_fixed_lem
-returns-in-Some g c = sym (at_read false _ c.args.house.now.tests.now c.args.which c.in-Some.test.now (search rules) (search rules))
-
-pub returns-in-None : goal.returns-in-None
-unfolding tests_fixed_lem
-returns-in-None g c = sym (at_else false _ c.args.house.now.tests.now c.args.which (search rules))
+returns g c =
+    let house = c.args.house.now in
+    got_tells false (λ test. nat_lt test.label house.sizes.fixed) house.tests.now c.args.which c.get-test.result c.is_some_and.result c.get-test.ensures.lookup (search rules)
