@@ -25,7 +25,7 @@ impl Taste {
         Taste { kind, common }
     }
 
-    // A bound of this width.
+    // A bound of this width. By the kind, as `second` has it, and not by a type: the bytes are made before a scale reads them.
     pub fn bound(self, dice: &mut Dice, width: Width) -> [u8; 4] {
         let point = self.common.unwrap_or_else(|| dice.below(self.kind.size()));
         let (a, b) = match self.kind {

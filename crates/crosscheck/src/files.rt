@@ -132,7 +132,7 @@ impl Draft {
         Ok(draft)
     }
 
-    // All records of a kind.
+    // All records of a kind. A match, and no table of functions: each takes `&mut self`.
     fn section(&mut self, dice: &mut Dice, section: Section) -> Result<(), AllocError> {
         match section {
             Section::Sizes => self.sizes(),

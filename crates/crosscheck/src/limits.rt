@@ -59,7 +59,8 @@ fn plain() -> Shape {
     }
 }
 
-// One of the shapes by its number: even ones are at a limit, odd ones past it.
+// One of the shapes by its number: even ones are at a limit, odd ones past it. By a number, since the files of a run take
+// the shapes in turn.
 pub fn shape_at(dice: &mut Dice, which: usize) -> Shape {
     let mut shape = plain();
     let past = which % 2;

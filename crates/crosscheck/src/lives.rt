@@ -66,6 +66,8 @@ fn random_call(dice: &mut Dice, sketch: Sketch) -> Call<Form> {
     }
 }
 
+// Facts and calls as each program has them. Functions, and no `From`: none of the types is this crate's own.
+//
 // The fact as the library has it.
 fn lent_fact<S: Recorded>(fact: Fact<Form>) -> anyhow::Result<Fact<S>> {
     let bound = S::from_bytes(fact.bound).ok();

@@ -1,10 +1,8 @@
 // How often each outcome came, and both programs agreed on it.
-use std::alloc::{AllocError, Global};
-use std::collections::BTreeMap;
 use std::fmt;
 
 // What a text tells.
-#[derive(Clone, Copy, PartialEq, Eq, PartialOrd, Ord)]
+#[derive(Clone, Copy, PartialEq, Eq)]
 pub enum Outcome {
     Listing,
     Nothing,
@@ -45,25 +43,41 @@ impl fmt::Display for Outcome {
 // The files of a scale.
 #[derive(Drop)]
 pub struct Tally {
-    counts: BTreeMap<Outcome, usize>,
+    listings: usize,
+    empty: usize,
+    contradictions: usize,
+    refused: [usize; 256],
     pub differ: usize,
 }
 
 impl Tally {
-    pub fn new(heap: Global) -> Tally {
+    pub fn new() -> Tally {
         Tally {
-            counts: BTreeMap::new(heap),
+            listings: 0,
+            empty: 0,
+            contradictions: 0,
+            refused: [0; 256],
             differ: 0,
         }
     }
 
-    pub fn note(&mut self, outcome: Outcome) -> Result<(), AllocError> {
-        let count = self.counts.entry(outcome)?.or_insert(0);
+    // An array for the refusals, and no map: noting an outcome cannot fail.
+    pub fn note(&mut self, outcome: Outcome) {
+        let count = match outcome {
+            Outcome::Listing => &mut self.listings,
+            Outcome::Nothing => &mut self.empty,
+            Outcome::Contradiction => &mut self.contradictions,
+            Outcome::Refused(number) => &mut self.refused[number as usize],
+        };
         *count = count.saturating_add(1);
-        Ok(())
     }
 
     pub fn of(&self, outcome: Outcome) -> usize {
-        self.counts.get(&outcome).copied().unwrap_or(0)
+        match outcome {
+            Outcome::Listing => self.listings,
+            Outcome::Nothing => self.empty,
+            Outcome::Contradiction => self.contradictions,
+            Outcome::Refused(number) => self.refused[number as usize],
+        }
     }
 }

@@ -15,7 +15,7 @@ use scale::Scale;
 // The most components that a house can have.
 const MOST_COMPONENTS: usize = 800;
 
-// A house, and the verdicts on each of its components.
+// A house, and the verdicts on each of its components. An array of fixed length: settling takes no memory from a heap.
 #[derive(Drop)]
 pub(super) struct Judged<'a, S: Scale> {
     pub(super) house: &'a House<'a, S>,
@@ -31,7 +31,8 @@ impl<'a, S: Scale> Judged<'a, S> {
         ensures { result.house.now ≡ house.now }
     {
         let mut verdicts = [Verdicts::of(house, 0); MOST_COMPONENTS];
-        // By index, up to the last component: `array::from_fn` would judge all places, however small the house.
+        // By index, up to the last component: with `array::from_fn` the closure would need a case for the places past it,
+        // and after an adapter of `iter_mut` a proof no longer knows what the array holds.
         for component in 1..components(house.sizes).min(MOST_COMPONENTS as u16) {
             verdicts[component as usize] = Verdicts::of(house, component);
         }

@@ -5,6 +5,8 @@
 // touched, and is narrowed by facts, by rules and by constraints. The cells come beside the house, and `Whole` in the
 // contracts: a struct with the `&mut` would need a clause in each of them that the same cells stay lent. The book comes
 // beside the house too: the rules alone ask it, and a struct with it would be of two type parameters wherever one will do.
+// That a house can be judged (`Judgeable`) is a premise and no field of `Judged`: `settle_hours` asks nothing of its caller, so
+// that no value can hold it.
 #![tactic(auto)]
 
 ghost use Rattle.std.specs.Prelude.{◌≡◌, ◌+◌, ◌≤◌, min, length};

@@ -27,7 +27,7 @@ fn cell_at(sizes: Sizes, at: usize) -> Option<Cell>
     let component = row % sizes.components();
     Some(Cell {
         hour: (row / sizes.components()) as u8,
-        component: u16::try_from(component).ok()?,
+        component: u16::try_from(component).unwrap_or(u16::MAX),
         label: sizes.fixed.saturating_add((at % moving) as u8),
     })
 }

@@ -67,6 +67,10 @@ there f xs i e =
 body_use : (n : ℕ) (b : Body) → body_ends_lem n b ≡ true → b.first + b.count ≤ n
 body_use n b e = leb-true _ _ e
 
+-- a rule that names a condition of n names one below n
+named_use : (n k : ℕ) → names_condition_lem n (Some k) ≡ true → k < n
+named_use n k e = ltb-true _ _ e
+
 module _ {S : Type 0} (h : House S) where
   fixed_test : (a : ℕ) → tests_fixed_lem h.sizes h.tests.now a ≡ true → FixedTest h a
   unfolding tests_fixed_lem
@@ -76,9 +80,9 @@ module _ {S : Type 0} (h : House S) where
   unfolding tests_moving_lem
   moving_test a e = there _ h.tests.now a e
 
-  named_use : (k : Option ℕ) → names_condition_lem (length h.conditions.now) k ≡ true → ConditionNamed h k
-  named_use None e = tt
-  named_use (Some k) e = ltb-true _ _ e
+  condition_named : (k : Option ℕ) → names_condition_lem (length h.conditions.now) k ≡ true → ConditionNamed h k
+  condition_named None e = tt
+  condition_named (Some k) e = named_use _ k e
 
   condition_lawful : (i : ℕ) (c : Condition) → condition_kept h.sizes h.tests.now i c ≡ true → LawfulCondition h i c
   unfolding condition_kept
@@ -111,9 +115,9 @@ module _ {S : Type 0} (h : House S) where
         target = p1.0;
         delay_least = delay.0;
         delay_most = delay.1;
-        onto = named_use _ p2.1;
-        along = named_use _ p3.1;
-        source = named_use _ p4.1;
+        onto = condition_named _ p2.1;
+        along = condition_named _ p3.1;
+        source = condition_named _ p4.1;
         body = body_use _ r.body p5.1;
         formula = ltb-true _ _ p6.1;
       }

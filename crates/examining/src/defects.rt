@@ -45,7 +45,7 @@ pub enum Defect {
 }
 
 impl Dimension {
-    // Its place among the sizes.
+    // Its place among the sizes. Written out, so that nothing hangs on the order of the cases.
     pub fn place(self) -> usize
         ensures { result ≡ dimension_place self }
     {
@@ -60,7 +60,7 @@ impl Dimension {
 }
 
 impl TableName {
-    // Its place among the tables.
+    // Its place among the tables. Written out, for the same reason.
     pub fn place(self) -> usize
         ensures { result ≡ table_place self }
     {

@@ -1,5 +1,5 @@
 // Cells and facts, by the sizes alone. Any sizes will do: none of this needs a house that was examined.
-ghost use Rattle.std.specs.Prelude.{◌≡◌, nat_le, nat_lt};
+ghost use Rattle.std.specs.Prelude.{◌≡◌, ◌+◌, ◌*◌, nat_le, nat_lt};
 ghost use Rattle.house.specs.Cells.{components, moves, inside, cell_count, fact_inside, Placed};
 
 use super::{Cell, Fact, Sizes};
@@ -38,6 +38,13 @@ impl Sizes {
         ensures { result ≡ inside self cell.hour cell.component cell.label }
     {
         self.has_hour(cell.hour) && self.has_component(cell.component) && self.moves(cell.label)
+    }
+
+    // Where the bound of a component's fixed label stands among the fixed bounds.
+    pub fn fixed_place(self, component: u16, label: u8) -> usize
+        ensures { result ≡ component * self.fixed + label }
+    {
+        component as usize * self.fixed as usize + label as usize
     }
 
     // How many cells there are: one for each hour, component and moving label.

@@ -65,7 +65,8 @@ impl From<u8> for Kind {
     }
 }
 
-// A condition on the fixed labels of a component, made of a and b as its kind says.
+// A condition on the fixed labels of a component, made of a and b as its kind says. Both numbers stand beside the kind, and
+// not inside its cases: a record has both, and what a record has is read as it stands, whether its kind looks at it or not.
 #[derive(Clone, Copy, PartialEq, Eq, Debug)]
 pub struct Condition {
     pub kind: Kind,

@@ -1,21 +1,19 @@
-// The refusals, by their number and place. An accepted house has number 0 and place 0 here.
+// The refusals, by their number and place, and none for an accepted house.
 use super::tables::{Blank, Lengths, Tables, house, lawful};
 use examining::{TableName, examine};
 use house::{Body, Condition, Edge, Kind, Sizes};
 use scale::Thousandths;
 
-fn verdict(tables: &Tables) -> (u8, usize) {
-    match examine(&house(tables), &Blank { formulas: 2 }) {
-        Ok(()) => (0, 0),
-        Err(defect) => (defect.number(), defect.place()),
-    }
+fn verdict(tables: &Tables) -> Option<(u8, usize)> {
+    let defect = examine(&house(tables), &Blank { formulas: 2 }).err()?;
+    Some((defect.number(), defect.place()))
 }
 
-fn sized(sizes: Sizes) -> (u8, usize) {
+fn sized(sizes: Sizes) -> Option<(u8, usize)> {
     verdict(&Tables { sizes, ..lawful() })
 }
 
-fn filled(lengths: Lengths) -> (u8, usize) {
+fn filled(lengths: Lengths) -> Option<(u8, usize)> {
     verdict(&Tables {
         lengths,
         ..lawful()
@@ -23,21 +21,21 @@ fn filled(lengths: Lengths) -> (u8, usize) {
 }
 
 // The second edge leads so.
-fn joined(from: u16, to: u16) -> (u8, usize) {
+fn joined(from: u16, to: u16) -> Option<(u8, usize)> {
     let mut tables = lawful();
     tables.edges[1] = Edge { from, to };
     verdict(&tables)
 }
 
 // The condition at place 2 is this one.
-fn conditioned(kind: Kind, a: u8, b: u8) -> (u8, usize) {
+fn conditioned(kind: Kind, a: u8, b: u8) -> Option<(u8, usize)> {
     let mut tables = lawful();
     tables.conditions[2] = Condition { kind, a, b };
     verdict(&tables)
 }
 
 // The constraint has this head and body.
-fn constrained(head: u8, first: u8, count: u8) -> (u8, usize) {
+fn constrained(head: u8, first: u8, count: u8) -> Option<(u8, usize)> {
     let mut tables = lawful();
     tables.constraints[0].head = head;
     tables.constraints[0].body = Body { first, count };
@@ -45,7 +43,7 @@ fn constrained(head: u8, first: u8, count: u8) -> (u8, usize) {
 }
 
 // The rule has this target and delay.
-fn ruled(target: u8, delay: u8) -> (u8, usize) {
+fn ruled(target: u8, delay: u8) -> Option<(u8, usize)> {
     let mut tables = lawful();
     tables.rules[0].target = target;
     tables.rules[0].delay = delay;
@@ -53,7 +51,7 @@ fn ruled(target: u8, delay: u8) -> (u8, usize) {
 }
 
 // The rule has these conditions.
-fn ruled_by(onto: Option<u8>, along: Option<u8>, source: Option<u8>) -> (u8, usize) {
+fn ruled_by(onto: Option<u8>, along: Option<u8>, source: Option<u8>) -> Option<(u8, usize)> {
     let mut tables = lawful();
     tables.rules[0].onto = onto;
     tables.rules[0].along = along;
@@ -62,7 +60,7 @@ fn ruled_by(onto: Option<u8>, along: Option<u8>, source: Option<u8>) -> (u8, usi
 }
 
 // The rule has this body and formula.
-fn ruled_with(first: u8, count: u8, formula: u8) -> (u8, usize) {
+fn ruled_with(first: u8, count: u8, formula: u8) -> Option<(u8, usize)> {
     let mut tables = lawful();
     tables.rules[0].body = Body { first, count };
     tables.rules[0].formula = formula;
@@ -72,47 +70,47 @@ fn ruled_with(first: u8, count: u8, formula: u8) -> (u8, usize) {
 #[test]
 fn sizes(rt: HostRuntime) {
     let sizes = lawful().sizes;
-    assert_eq!(rt; sized(sizes), (0, 0));
-    assert_eq!(rt; sized(Sizes { nodes: 0, ..sizes }), (1, 0));
+    assert_eq!(rt; sized(sizes), None);
+    assert_eq!(rt; sized(Sizes { nodes: 0, ..sizes }), Some((1, 0)));
     assert_eq!(rt;
         sized(Sizes {
             nodes: 200,
             ..sizes
         }),
-        (2, 1)
+        Some((2, 1))
     );
     assert_eq!(rt;
         sized(Sizes {
             nodes: 201,
             ..sizes
         }),
-        (1, 0)
+        Some((1, 0))
     );
     assert_eq!(rt;
         sized(Sizes {
             edges: 600,
             ..sizes
         }),
-        (2, 0)
+        Some((2, 0))
     );
     assert_eq!(rt;
         sized(Sizes {
             edges: 601,
             ..sizes
         }),
-        (1, 1)
+        Some((1, 1))
     );
-    assert_eq!(rt; sized(Sizes { fixed: 16, ..sizes }), (2, 1));
-    assert_eq!(rt; sized(Sizes { fixed: 17, ..sizes }), (1, 2));
-    assert_eq!(rt; sized(Sizes { moving: 0, ..sizes }), (1, 3));
-    assert_eq!(rt; sized(Sizes { moving: 8, ..sizes }), (0, 0));
-    assert_eq!(rt; sized(Sizes { moving: 9, ..sizes }), (1, 3));
-    assert_eq!(rt; sized(Sizes { last: 63, ..sizes }), (0, 0));
-    assert_eq!(rt; sized(Sizes { last: 64, ..sizes }), (1, 4));
+    assert_eq!(rt; sized(Sizes { fixed: 16, ..sizes }), Some((2, 1)));
+    assert_eq!(rt; sized(Sizes { fixed: 17, ..sizes }), Some((1, 2)));
+    assert_eq!(rt; sized(Sizes { moving: 0, ..sizes }), Some((1, 3)));
+    assert_eq!(rt; sized(Sizes { moving: 8, ..sizes }), None);
+    assert_eq!(rt; sized(Sizes { moving: 9, ..sizes }), Some((1, 3)));
+    assert_eq!(rt; sized(Sizes { last: 63, ..sizes }), None);
+    assert_eq!(rt; sized(Sizes { last: 64, ..sizes }), Some((1, 4)));
 }
 
 // So many records of this table are in use.
-fn long(table: TableName, count: usize) -> (u8, usize) {
+fn long(table: TableName, count: usize) -> Option<(u8, usize)> {
     let mut lengths = lawful().lengths;
     match table {
         TableName::Edges => lengths.edges = count,
@@ -127,75 +125,75 @@ fn long(table: TableName, count: usize) -> (u8, usize) {
 
 #[test]
 fn lengths(rt: HostRuntime) {
-    assert_eq!(rt; long(TableName::Edges, 1), (2, 0));
-    assert_eq!(rt; long(TableName::Edges, 3), (2, 0));
-    assert_eq!(rt; long(TableName::FixedBounds, 4), (2, 1));
-    assert_eq!(rt; long(TableName::FixedBounds, 6), (2, 1));
-    assert_eq!(rt; long(TableName::Tests, 64), (0, 0));
-    assert_eq!(rt; long(TableName::Tests, 65), (2, 2));
-    assert_eq!(rt; long(TableName::Conditions, 64), (0, 0));
-    assert_eq!(rt; long(TableName::Conditions, 65), (2, 3));
-    assert_eq!(rt; long(TableName::Constraints, 64), (0, 0));
-    assert_eq!(rt; long(TableName::Constraints, 65), (2, 4));
-    assert_eq!(rt; long(TableName::Rules, 64), (0, 0));
-    assert_eq!(rt; long(TableName::Rules, 65), (2, 5));
+    assert_eq!(rt; long(TableName::Edges, 1), Some((2, 0)));
+    assert_eq!(rt; long(TableName::Edges, 3), Some((2, 0)));
+    assert_eq!(rt; long(TableName::FixedBounds, 4), Some((2, 1)));
+    assert_eq!(rt; long(TableName::FixedBounds, 6), Some((2, 1)));
+    assert_eq!(rt; long(TableName::Tests, 64), None);
+    assert_eq!(rt; long(TableName::Tests, 65), Some((2, 2)));
+    assert_eq!(rt; long(TableName::Conditions, 64), None);
+    assert_eq!(rt; long(TableName::Conditions, 65), Some((2, 3)));
+    assert_eq!(rt; long(TableName::Constraints, 64), None);
+    assert_eq!(rt; long(TableName::Constraints, 65), Some((2, 4)));
+    assert_eq!(rt; long(TableName::Rules, 64), None);
+    assert_eq!(rt; long(TableName::Rules, 65), Some((2, 5)));
 }
 
 #[test]
 fn edges_bounds_and_tests(rt: HostRuntime) {
-    assert_eq!(rt; joined(2, 2), (0, 0));
-    assert_eq!(rt; joined(0, 1), (3, 1));
-    assert_eq!(rt; joined(3, 0), (3, 1));
-    assert_eq!(rt; joined(0, 3), (3, 1));
+    assert_eq!(rt; joined(2, 2), None);
+    assert_eq!(rt; joined(0, 1), Some((3, 1)));
+    assert_eq!(rt; joined(3, 0), Some((3, 1)));
+    assert_eq!(rt; joined(0, 3), Some((3, 1)));
     let mut tables = lawful();
     tables.sizes.edges = 3;
     tables.lengths.edges = 3;
     tables.lengths.fixed = 6;
-    assert_eq!(rt; verdict(&tables), (3, 2));
+    assert_eq!(rt; verdict(&tables), Some((3, 2)));
     tables.edges[2].from = 2;
-    assert_eq!(rt; verdict(&tables), (0, 0));
+    assert_eq!(rt; verdict(&tables), None);
     tables.fixed[5] = Thousandths::none();
-    assert_eq!(rt; verdict(&tables), (4, 5));
+    assert_eq!(rt; verdict(&tables), Some((4, 5)));
     let mut tables = lawful();
     tables.tests[1].label = 2;
-    assert_eq!(rt; verdict(&tables), (5, 1));
+    assert_eq!(rt; verdict(&tables), Some((5, 1)));
 }
 
 #[test]
 fn conditions_and_constraints(rt: HostRuntime) {
-    assert_eq!(rt; conditioned(Kind::Test, 0, 9), (0, 0));
-    assert_eq!(rt; conditioned(Kind::Test, 1, 0), (6, 2));
-    assert_eq!(rt; conditioned(Kind::Test, 2, 0), (6, 2));
-    assert_eq!(rt; conditioned(Kind::Not, 1, 9), (0, 0));
-    assert_eq!(rt; conditioned(Kind::Not, 2, 0), (6, 2));
-    assert_eq!(rt; conditioned(Kind::Both, 2, 0), (6, 2));
-    assert_eq!(rt; conditioned(Kind::Both, 1, 2), (6, 2));
-    assert_eq!(rt; conditioned(Kind::Either, 1, 1), (0, 0));
-    assert_eq!(rt; conditioned(Kind::Either, 1, 2), (6, 2));
-    assert_eq!(rt; conditioned(Kind::from(4), 0, 0), (6, 2));
-    assert_eq!(rt; constrained(1, 2, 0), (0, 0));
-    assert_eq!(rt; constrained(0, 0, 0), (7, 0));
-    assert_eq!(rt; constrained(2, 0, 0), (7, 0));
-    assert_eq!(rt; constrained(1, 3, 0), (7, 0));
-    assert_eq!(rt; constrained(1, 1, 2), (7, 0));
-    assert_eq!(rt; constrained(1, 255, 255), (7, 0));
+    assert_eq!(rt; conditioned(Kind::Test, 0, 9), None);
+    assert_eq!(rt; conditioned(Kind::Test, 1, 0), Some((6, 2)));
+    assert_eq!(rt; conditioned(Kind::Test, 2, 0), Some((6, 2)));
+    assert_eq!(rt; conditioned(Kind::Not, 1, 9), None);
+    assert_eq!(rt; conditioned(Kind::Not, 2, 0), Some((6, 2)));
+    assert_eq!(rt; conditioned(Kind::Both, 2, 0), Some((6, 2)));
+    assert_eq!(rt; conditioned(Kind::Both, 1, 2), Some((6, 2)));
+    assert_eq!(rt; conditioned(Kind::Either, 1, 1), None);
+    assert_eq!(rt; conditioned(Kind::Either, 1, 2), Some((6, 2)));
+    assert_eq!(rt; conditioned(Kind::from(4), 0, 0), Some((6, 2)));
+    assert_eq!(rt; constrained(1, 2, 0), None);
+    assert_eq!(rt; constrained(0, 0, 0), Some((7, 0)));
+    assert_eq!(rt; constrained(2, 0, 0), Some((7, 0)));
+    assert_eq!(rt; constrained(1, 3, 0), Some((7, 0)));
+    assert_eq!(rt; constrained(1, 1, 2), Some((7, 0)));
+    assert_eq!(rt; constrained(1, 255, 255), Some((7, 0)));
 }
 
 #[test]
 fn rules(rt: HostRuntime) {
-    assert_eq!(rt; ruled(1, 0), (8, 0));
-    assert_eq!(rt; ruled(1, 63), (0, 0));
-    assert_eq!(rt; ruled(1, 64), (8, 0));
-    assert_eq!(rt; ruled(0, 1), (8, 0));
-    assert_eq!(rt; ruled(2, 1), (8, 0));
-    assert_eq!(rt; ruled_by(None, None, None), (0, 0));
-    assert_eq!(rt; ruled_by(Some(4), Some(0), Some(0)), (8, 0));
-    assert_eq!(rt; ruled_by(Some(0), Some(254), Some(0)), (8, 0));
-    assert_eq!(rt; ruled_by(Some(3), Some(3), Some(4)), (8, 0));
-    assert_eq!(rt; ruled_with(1, 1, 1), (0, 0));
-    assert_eq!(rt; ruled_with(1, 2, 1), (8, 0));
-    assert_eq!(rt; ruled_with(3, 0, 1), (8, 0));
-    assert_eq!(rt; ruled_with(1, 1, 2), (8, 0));
+    assert_eq!(rt; ruled(1, 0), Some((8, 0)));
+    assert_eq!(rt; ruled(1, 63), None);
+    assert_eq!(rt; ruled(1, 64), Some((8, 0)));
+    assert_eq!(rt; ruled(0, 1), Some((8, 0)));
+    assert_eq!(rt; ruled(2, 1), Some((8, 0)));
+    assert_eq!(rt; ruled_by(None, None, None), None);
+    assert_eq!(rt; ruled_by(Some(4), Some(0), Some(0)), Some((8, 0)));
+    assert_eq!(rt; ruled_by(Some(0), Some(254), Some(0)), Some((8, 0)));
+    assert_eq!(rt; ruled_by(Some(3), Some(3), Some(4)), Some((8, 0)));
+    assert_eq!(rt; ruled_with(1, 1, 1), None);
+    assert_eq!(rt; ruled_with(1, 2, 1), Some((8, 0)));
+    assert_eq!(rt; ruled_with(3, 0, 1), Some((8, 0)));
+    assert_eq!(rt; ruled_with(1, 1, 2), Some((8, 0)));
 }
 
 // All of one number come before any of the next.
@@ -204,9 +202,9 @@ fn order(rt: HostRuntime) {
     let mut tables = lawful();
     tables.rules[0].delay = 0;
     tables.edges[1] = tables.edges[0];
-    assert_eq!(rt; verdict(&tables), (3, 1));
+    assert_eq!(rt; verdict(&tables), Some((3, 1)));
     let mut tables = lawful();
     tables.constraints[0].head = 0;
     tables.tests[1].label = 2;
-    assert_eq!(rt; verdict(&tables), (5, 1));
+    assert_eq!(rt; verdict(&tables), Some((5, 1)));
 }

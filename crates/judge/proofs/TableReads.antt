@@ -1,10 +1,13 @@
 -- What reads of tables and cells come to. Assumes nothing.
-use Rattle.std.proofs.Common.{◌≡◌, ℕ, ◌<◌, ◌≤◌, Bool, true, false, not, ◌&&◌, List, Some, None, Option, Bor, sym, refl, ◌∙◌}
+use Rattle.std.proofs.Common.{◌≡◌, ℕ, ◌<◌, ◌≤◌, Bool, true, false, not, ◌&&◌, List, get_or, Some, None, Option, Bor, sym, refl, ◌∙◌, zero-add}
 use Rattle.std.specs.Prelude.{option_copied}
 use Rattle.std.specs.Slice.{IsItemAt}
 use Rattle.std.proofs.lemmas.Bool.{true≢false, lt-ltb, le-ltb, cond-true, cond-false}
-use Rattle.points.specs.Points.{Points, Same, within, void}
-use Rattle.points.proofs.Decided.{each_from, implies_from, same_test}
+use Rattle.std.specs.List.{list_all, range_with_len}
+use Rattle.std.proofs.lemmas.List.FromFn.{length-range_with_len, get_or-range_with_len}
+use Rattle.std.proofs.lemmas.List.Recursion.{and_at, and_from_places}
+use Rattle.points.specs.Points.{Points, Same, within, void, each_below}
+use Rattle.points.proofs.Decided.{each_use, each_from, implies_from, same_test}
 use Rattle.points.specs.Tables.{at_place}
 use Rattle.points.proofs.Tabled.{at_got}
 use Rattle.house.specs.declared.tables.House.{House}
@@ -15,6 +18,16 @@ use Rattle.fitting.specs.Course.{Course, course_of}
 use Rattle.fitting.specs.Tests.{meets, fixed_at, seen}
 use Rattle.fitting.proofs.Narrow.{meets_mono}
 use Rattle.judge.specs.Judged.{points_of, bound_at}
+
+-- a test of every number below a limit
+pub all_below : (n : ℕ) (f : ℕ → Bool) → list_all f (range_with_len 0 n) ≡ each_below n f
+all_below n f =
+    same_test _ _
+    (λ e. each_from n f (λ k l. rw (read k l) at (and_at (list_all f) f refl (λ _ _. refl) (range_with_len 0 n) k 0 (rw length-range_with_len l) e)))
+    (λ e. and_from_places (list_all f) f refl (λ _ _. refl) (range_with_len 0 n) 0 (λ k l. let lt : k < n = rw length-range_with_len at l in rw (read k lt) (each_use n f e k lt)))
+  where
+    read : (k : ℕ) → k < n → get_or (range_with_len 0 n) k 0 ≡ k
+    read k l = get_or-range_with_len 0 n k 0 l ∙ zero-add k
 
 none_within : (n : ℕ) (bound : Points) → within n (λ p. false) bound ≡ true
 unfolding within

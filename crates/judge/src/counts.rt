@@ -30,7 +30,7 @@ pub fn neighbours<S: Scale>(
         eligible: 0,
         qualifying: 0,
     };
-    // One loop for both counts, and no chain: settling spends most of its time here.
+    // One loop for both counts: a fold would carry the same two sums through a closure, which is no plainer.
     for (e, edge) in house.edges.iter().enumerate() {
         let along = house.sizes.nodes as usize + e;
         if feeds(verdicts, rule, node.component, *edge, along) {

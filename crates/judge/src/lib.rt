@@ -61,7 +61,7 @@ fn met_by<S: Scale>(seen: Option<S>, bound: S) -> bool
 fn fixed_bound<S: Scale>(house: &House<S>, component: u16, label: u8) -> Option<S>
     ensures { Same (points_of S.Scale.has result) (fixed_at S.Scale.has house.now component label) }
 {
-    let at = component as usize * house.sizes.fixed as usize + label as usize;
+    let at = house.sizes.fixed_place(component, label);
     house.fixed.get(at).copied()
 }
 
@@ -90,11 +90,6 @@ pub fn test_met<S: Scale>(house: &House<S>, cells: &[S], spot: Spot, i: usize) -
 pub fn body_met<S: Scale>(house: &House<S>, cells: &[S], spot: Spot, body: Body) -> bool
     ensures { result ≡ body_met_lem S.Scale.size S.Scale.has house.now (course_of house.now.sizes S.Scale.has cells.now) spot.hour spot.component body }
 {
-    // A loop, since `all` over the range made settling a house of the programs some 4 per cent slower.
-    for k in 0..body.count as usize {
-        if !test_met(house, cells, spot, body.first as usize + k) {
-            return false;
-        }
-    }
-    true
+    let first = body.first as usize;
+    (0..body.count).all(|k| test_met(house, cells, spot, first + k as usize))
 }

@@ -7,7 +7,8 @@ use super::{fixed_bound, met_by};
 use house::{Condition, House, Kind};
 use scale::Scale;
 
-// What the first 64 conditions of a house say on one component.
+// What the first 64 conditions of a house say on one component. An array of fixed length: settling takes no memory from a
+// heap.
 #[derive(Clone, Copy, PartialEq, Eq, Debug)]
 pub struct Verdicts {
     said: [bool; 64],

@@ -1,4 +1,5 @@
-// Lists of calls, played on a plan through the real calls.
+// Lists of calls, played on a plan through the real calls. House, book, facts and course come side by side: a struct with the
+// two `&mut` would need a clause in each contract that the same table and the same cells stay lent.
 ghost use Rattle.std.specs.Prelude.{◌≡◌, MatchResult};
 ghost use Rattle.life.specs.declared.calls.Plan.TheVariants.{Draft as Open, Settled as Firm};
 ghost use Rattle.life.specs.Kinds.{plan_of, on_draft_lem, on_settled_lem, told, verdict};

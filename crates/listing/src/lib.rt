@@ -9,7 +9,8 @@ use scale::{Recorded, Scale};
 use std::alloc::{AllocError, Global};
 use std::fmt;
 
-// Writes the line of the cell at a place, whose bound has these four bytes.
+// Writes the line of the cell at a place, whose bound has these four bytes. Any place has a line, also one past the cells of
+// the house, so that the cell is not asked of the engine, which knows those alone.
 fn put_line(out: &mut String, sizes: Sizes, at: usize, form: [u8; 4]) -> fmt::Result
     ensures { OnOk result (string_bytes out.new ≡ string_bytes out.old ++ cell_line sizes at form) }
 {

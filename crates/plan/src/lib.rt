@@ -3,7 +3,8 @@
 // A plan is a draft or it is settled. A draft takes filings and strikes, and can be settled; a settled plan answers what
 // its course entails, and is reopened before anything more is filed. A plan holds no table: the caller keeps the house,
 // the table of facts and the cells of the course, and lends them to each call. A plan is moved, never copied, so that a
-// draft that was settled is gone. What is lent comes side by side, and not as one struct, since no two calls need the same.
+// draft that was settled is gone. What is lent comes side by side: `look` and `entails` alone are lent the
+// same, sizes and course, and a struct of the two would be made anew for each.
 //
 // A call refuses at the first check that fails, in an order of its own, and then leaves the plan and all that was lent as
 // they were. `Refusal` gives each refusal its number and its place.

@@ -75,7 +75,7 @@ impl Fault {
     }
 }
 
-// The text of a fault: its number and its place.
+// The text of a fault: its number and its place, as that of a plan's refusal. A trait for these two lines would be longer.
 impl fmt::Display for Fault {
     ghost output = { λ f. Some (refusal_text (number_of f) (place_of f)) };
 

@@ -51,7 +51,7 @@ impl From<Refusal> for EntryFault {
 fn open_place<S: Scale>(fixed: &Shelf<S>, sizes: Sizes, component: u16, label: u8) -> Option<usize>
     ensures { OpenPlace S.Scale.size S.Scale.has sizes component label fixed.now.table.now result }
 {
-    let place = usize::from(component) * usize::from(sizes.fixed) + usize::from(label);
+    let place = sizes.fixed_place(component, label);
     let bound = fixed.table.get(place)?;
     let in_house = sizes.has_component(component) && label < sizes.fixed;
     (in_house && bound.is_loose()).then_some(place)

@@ -1,21 +1,21 @@
 // The shape of a record, before four of its bytes are read as a bound.
-ghost use Rattle.std.specs.Prelude.{◌≡◌, ◌↔◌, IsTrue};
+ghost use Rattle.std.specs.Prelude.{◌≡◌, ◌<◌, ◌↔◌, IsTrue, MatchOption};
 ghost use Rattle.record_line.specs.Lines.{Clear, Formed, named_end as named_end_lem};
 
 use book::MOST_ELIGIBLE;
 
-// The first byte behind those that a letter names; 0 where it is no letter of a record.
-fn named_end(letter: u8) -> usize
-    ensures { result ≡ named_end_lem letter }
+// The first byte behind those that a letter names. None where it is no letter of a record.
+fn named_end(letter: u8) -> Option<usize>
+    ensures { MatchOption result (named_end_lem letter ≡ 0) (λ end. (end ≡ named_end_lem letter) × (0 < end)) }
 {
     match letter {
-        b'S' => 7,
-        b'E' => 5,
-        b'X' | b'T' | b'Q' => 8,
-        b'C' | b'K' => 4,
-        b'R' => 9,
-        b'F' => 10,
-        _ => 0,
+        b'S' => Some(7),
+        b'E' => Some(5),
+        b'X' | b'T' | b'Q' => Some(8),
+        b'C' | b'K' => Some(4),
+        b'R' => Some(9),
+        b'F' => Some(10),
+        _ => None,
     }
 }
 
@@ -31,12 +31,11 @@ fn clear(line: &[u8; 16], from: usize) -> bool
 pub(super) fn has_shape(line: &[u8; 16]) -> bool
     ensures { IsTrue result ↔ Formed line.now }
 {
-    let end = named_end(line[0]);
     let fits = match *line {
         [b'S', _, _, _, _, _, quorum, ..] => quorum <= MOST_ELIGIBLE,
         [b'T', _, 0, 0, ..] => true,
         [b'T', ..] => false,
         _ => true,
     };
-    end > 0 && fits && clear(line, end)
+    fits && named_end(line[0]).is_some_and(|end| clear(line, end))
 }

@@ -129,7 +129,7 @@ fn blank_fact<S: Scale>() -> Fact<S> {
     }
 }
 
-// As many copies of a value.
+// As many copies of a value. Mapped, and not by `vec!`, whose contract speaks of clones where the type is a parameter.
 pub fn copies<T: Copy>(heap: Global, x: T, n: usize) -> Result<Vec<T>, AllocError>
     ensures { IfOk result (λ v. v.items ≡ replicate n x) }
 {

@@ -5,4 +5,6 @@ use Rattle.judge.proofs.fixed_bound.Goals as goal
 
 pub returns : goal.returns
 unfolding fixed_at bound_at
-returns g c = rw c.copied.ensures (bound_got g.S.Scale.has c.args.house.now.fixed.now _ c.get.result c.get.ensures.lookup)
+returns g c =
+    let lookup = rw c.fixed_place-at.ensures at c.get.ensures.lookup in
+    rw c.copied.ensures (bound_got g.S.Scale.has c.args.house.now.fixed.now _ c.get.result lookup)
