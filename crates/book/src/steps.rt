@@ -90,7 +90,9 @@ fn asks(formulas: u16, f: u16, x: u16, y: u16) -> bool
     f < formulas && x <= y && y <= u16::from(MOST_ELIGIBLE)
 }
 
-// What formula f says at x of y; loose if no step is of f or above, or not x ≤ y ≤ 200.
+// What formula f says at x of y; loose if no step is of f or above, or not x ≤ y ≤ 200. A function of its own when it runs, too:
+// settling asks it for each rule and node, and its loops over the steps are slower among those of settling.
+#[inline(never)]
 fn told<S: Scale, T: Step<S>>(steps: &[T], f: u16, x: u16, y: u16) -> S
     ensures { Same (S.Scale.has result) (answered S.Scale.size (formulas_of T.Step.number steps.now) (said T.Step.number T.Step.reaches (λ t. S.Scale.has (T.Step.limit t)) S.Scale.size steps.now) f x y) }
 {

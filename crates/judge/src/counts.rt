@@ -16,6 +16,10 @@ pub struct Count {
 
 // Counts the neighbours of a node for a rule at an hour, over all edges into the node. A neighbour is eligible where the
 // edge and the neighbour meet the rule's conditions, and qualifies if the rule's body is met on it `delay` hours before.
+//
+// Settling spends most of its time in this loop. As a function of its own it has the registers for itself: woven into the
+// loops over hours, rules and nodes it took half as long again.
+#[inline(never)]
 pub fn neighbours<S: Scale>(
     house: &House<S>,
     verdicts: &[Verdicts],
@@ -33,7 +37,7 @@ pub fn neighbours<S: Scale>(
     // One loop for both counts: a fold would carry the same two sums through a closure, which is no plainer.
     for (e, edge) in house.edges.iter().enumerate() {
         let along = house.sizes.nodes as usize + e;
-        if feeds(verdicts, rule, node.component, *edge, along) {
+        if feeds(verdicts, rule, node.component, edge, along) {
             count.eligible = count.eligible.saturating_add(1);
             let neighbour = Spot {
                 hour: past,
@@ -48,8 +52,8 @@ pub fn neighbours<S: Scale>(
 }
 
 // Whether an edge leads to the node, and its node and it, the component `along`, meet the rule's conditions.
-fn feeds(verdicts: &[Verdicts], rule: Rule, node: u16, edge: Edge, along: usize) -> bool
-    ensures { result ≡ ((edge.to == node) && held_on_lem verdicts.now rule.source edge.from && held_on_lem verdicts.now rule.along along) }
+fn feeds(verdicts: &[Verdicts], rule: Rule, node: u16, edge: &Edge, along: usize) -> bool
+    ensures { result ≡ ((edge.now.to == node) && held_on_lem verdicts.now rule.source edge.now.from && held_on_lem verdicts.now rule.along along) }
 {
     edge.to == node
         && held_on(verdicts, rule.source, edge.from as usize)
