@@ -198,7 +198,7 @@ impl Draft {
             let place = first.saturating_add(i) % places;
             let component = place / self.sketch.shape.fixed.max(1);
             let label = place % self.sketch.shape.fixed.max(1);
-            let [p, q, r, s] = self.sketch.taste.bound(dice, Width::Narrow);
+            let [p, q, r, s] = self.bound_or_void(dice, Width::Narrow);
             let rest = [high(component), low(component), low(label), p, q, r, s];
             self.record(b'X', &rest)?;
         }
@@ -212,14 +212,19 @@ impl Draft {
             } else {
                 self.moving_label(dice)
             };
-            let [p, q, r, s] = if dice.once_in(30) {
-                self.sketch.taste.void()
-            } else {
-                self.sketch.taste.bound(dice, Width::Wide)
-            };
+            let [p, q, r, s] = self.bound_or_void(dice, Width::Wide);
             self.record(b'T', &[low(label), 0, 0, p, q, r, s])?;
         }
         Ok(())
+    }
+
+    // A bound of this width, and the void once in thirty.
+    fn bound_or_void(&self, dice: &mut Dice, width: Width) -> [u8; 4] {
+        if dice.once_in(30) {
+            self.sketch.taste.void()
+        } else {
+            self.sketch.taste.bound(dice, width)
+        }
     }
 
     fn moving_label(&mut self, dice: &mut Dice) -> usize {
