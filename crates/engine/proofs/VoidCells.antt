@@ -27,6 +27,15 @@ has_point n a e = found n e
 pub cell_found : (s : Sizes) (i : ℕ) (x : Cell) → i < cell_count s → x.hour ≡ hour_at s i → x.component ≡ component_at s i → x.label ≡ label_at s i → CellAt s i (Some x)
 cell_found s i x lt et ec el = (rw (et, ec, el) (inside_from s _ _ _ (cell_at s i lt)), rw (et, ec, el) (place_at s i))
 
+-- every bound before a place has a point
+unfoldable pub FullBelow : {S : Type 0} → ℕ → (S → Points) → List S → ℕ → Type 0
+FullBelow {S} n has cells i = (k : ℕ) → k < i → (x : S) → x ≡ get_or cells k x → void n (has x) ≡ false
+
+-- the same, from the library's words for it
+pub full_from : {S : Type 0} (n : ℕ) (has : S → Points) (cells : List S) (i : ℕ) → AllWithin (λ x. void n (has x) ≡ false) cells 0 i → FullBelow n has cells i
+unfolding FullBelow
+full_from {S} n has cells i all k lt x is = subst (λ (y : S). void n (has y) ≡ false) (sym is) (all k x (omega arith) lt)
+
 module _ {S : Type 0} (n : ℕ) (has : S → Points) (low : (x : S) (p : ℕ) → has x p ≡ true → p < n) (s : Sizes) (cells : List S) (whole : Whole s cells) where
   read_at : (ys : List S) (i : ℕ) → i < length ys → (x : S) × (x ≡ get_or ys i x)
   read_at [] i l = absurd (omega arith)
@@ -37,20 +46,17 @@ module _ {S : Type 0} (n : ℕ) (has : S → Points) (low : (x : S) (p : ℕ) �
   unfolding course_of
   cell_is t c l p x in' is = rw in' (at_read false (λ y. has y p) cells (place s t c l) x (rw whole (place_lt s t c l (inside_use s t c l in'))) is)
 
-  -- every bound before a place has a point
-  abbrev pub FullBelow : ℕ → Type 0
-  FullBelow i = AllWithin (λ x. void n (has x) ≡ false) cells 0 i
-
-  full_cell : (i : ℕ) → FullBelow i → (t c l : ℕ) → inside s t c l ≡ true → place s t c l < i → (p : ℕ) × (course_of s has cells t c l p ≡ true)
+  full_cell : (i : ℕ) → FullBelow n has cells i → (t c l : ℕ) → inside s t c l ≡ true → place s t c l < i → (p : ℕ) × (course_of s has cells t c l p ≡ true)
+  unfolding FullBelow
   full_cell i full t c l in' lt =
       let r = read_at cells (place s t c l) (rw whole (place_lt s t c l (inside_use s t c l in'))) in
-      let q = has_point n (has r.0) (rw (← r.1) at (full (place s t c l) r.0 (omega arith) lt)) in
+      let q = has_point n (has r.0) (full (place s t c l) lt r.0 r.1) in
       (q.0, cell_is t c l q.0 r.0 in' r.1 ∙ q.1)
 
-  pub none_void : FullBelow (length cells) → FirstVoid s (course_of s has cells) None
+  pub none_void : FullBelow n has cells (length cells) → FirstVoid s (course_of s has cells) None
   none_void full t c l in' = full_cell (length cells) full t c l in' (rw whole (place_lt s t c l (inside_use s t c l in')))
 
-  pub some_void : (i : ℕ) (r : Option Cell) → i < length cells → HoldsAt (λ x. void n (has x) ≡ true) cells i → FullBelow i → CellAt s i r → FirstVoid s (course_of s has cells) r
+  pub some_void : (i : ℕ) (r : Option Cell) → i < length cells → HoldsAt (λ x. void n (has x) ≡ true) cells i → FullBelow n has cells i → CellAt s i r → FirstVoid s (course_of s has cells) r
   some_void i (Some y) lt v full at = (
     at.0,
     (λ p. let r = read_at cells i lt in

@@ -13,37 +13,42 @@ use judge::{Count, Spot, Verdicts, held_on, neighbours};
 use scale::Scale;
 
 // The most components that a house can have.
-const MOST_COMPONENTS: usize = 800;
+pub(super) const MOST_COMPONENTS: usize = 800;
 
-// A house, and the verdicts on each of its components. An array of fixed length: settling takes no memory from a heap.
+// A house, and the verdicts on each of its components. They lie in room that the caller has, since a struct that held them
+// would have them copied into it.
 #[derive(Drop)]
 pub(super) struct Judged<'a, S: Scale> {
     pub(super) house: &'a House<'a, S>,
-    verdicts: [Verdicts; MOST_COMPONENTS],
+    verdicts: &'a [Verdicts],
     // If there is room for all components, these are the verdicts on them.
-    ghost judged: { components house.now.sizes ≤ 800 → AllJudged S.Scale.size S.Scale.has house.now verdicts },
+    ghost judged: { components house.now.sizes ≤ 800 → AllJudged S.Scale.size S.Scale.has house.now verdicts.now },
 }
 
 impl<'a, S: Scale> Judged<'a, S> {
-    // Works out which conditions hold on every component. Every place begins with what holds on component 0, which is
-    // all that is known of the places past the last component.
-    pub(super) fn of(house: &'a House<'a, S>) -> Judged<'a, S>
+    // Works out which conditions hold on every component, in the room for them. Places past the last component stay as
+    // they were.
+    pub(super) fn of(
+        house: &'a House<'a, S>,
+        room: &'a mut [Verdicts; MOST_COMPONENTS],
+    ) -> Judged<'a, S>
         ensures { result.house.now ≡ house.now }
     {
-        let mut verdicts = [Verdicts::of(house, 0); MOST_COMPONENTS];
-        // By index, up to the last component: with `array::from_fn` the closure would need a case for the places past it,
-        // and after an adapter of `iter_mut` a proof no longer knows what the array holds.
-        for component in 1..components(house.sizes).min(MOST_COMPONENTS as u16) {
-            verdicts[component as usize] = Verdicts::of(house, component);
+        // By index, up to the last component: after an adapter of `iter_mut` a proof no longer knows what the room holds.
+        for component in 0..components(house.sizes).min(MOST_COMPONENTS as u16) {
+            room[component as usize] = Verdicts::of(house, component);
         }
-        Judged { house, verdicts }
+        Judged {
+            house,
+            verdicts: room,
+        }
     }
 
     // Whether a condition holds on a component.
     pub(super) fn holds(&self, condition: Option<u8>, component: u16) -> bool
         ensures { Judgeable S.Scale.size S.Scale.has self.now.house.now → component < components self.now.house.now.sizes → result ≡ holds S.Scale.size S.Scale.has self.now.house.now condition component }
     {
-        held_on(&self.verdicts, condition, component as usize)
+        held_on(self.verdicts, condition, component as usize)
     }
 
     // Counts the neighbours of a node for a rule at an hour.
@@ -51,6 +56,6 @@ impl<'a, S: Scale> Judged<'a, S> {
         ensures eligible { Judgeable S.Scale.size S.Scale.has self.now.house.now → result.eligible ≡ eligibles S.Scale.size S.Scale.has self.now.house.now rule node.component }
         ensures qualifying { Judgeable S.Scale.size S.Scale.has self.now.house.now → result.qualifying ≡ qualified S.Scale.size S.Scale.has self.now.house.now (course_of self.now.house.now.sizes S.Scale.has cells.now) rule node.hour node.component }
     {
-        neighbours(self.house, &self.verdicts, cells, rule, node)
+        neighbours(self.house, self.verdicts, cells, rule, node)
     }
 }

@@ -25,7 +25,8 @@ mod voids;
 use book::Book;
 use constraints::constrain_hour;
 use house::{Fact, House, Sizes};
-use judged::Judged;
+use judge::Verdicts;
+use judged::{Judged, MOST_COMPONENTS};
 use rules::apply_rules;
 use scale::Scale;
 use start::start_hour;
@@ -42,7 +43,10 @@ pub fn settle_hours<S: Scale, B: Book<S>>(
     ensures settled { Settles S.Scale.size S.Scale.has house.now (B.Book.says book.now) facts.now (B.Book.formulas book.now) course.old course.new }
     ensures length { length course.new ≡ length course.old }
 {
-    let judged = Judged::of(house);
+    // Room for the verdicts, filled with those on component 0 until each is worked out. Of fixed length: settling takes no
+    // memory from a heap.
+    let mut room = [Verdicts::of(house, 0); MOST_COMPONENTS];
+    let judged = Judged::of(house, &mut room);
     for hour in 0..=house.sizes.last {
         settle_hour(&judged, book, facts, course, hour);
     }
