@@ -1,7 +1,7 @@
 // What a program holds while it works on a record file: room for the tables, and the house that a file describes there.
 #![tactic(auto)]
 
-ghost use Rattle.std.specs.Prelude.{◌≡◌, replicate, IfOk};
+ghost use Rattle.std.specs.Prelude.{◌≡◌, replicate, take, IfOk};
 ghost use Rattle.workspace.specs.Spaces.{Roomy, Housed, DescribedBy, Lent};
 
 use book::{Quorum, Stair, Stairs};
@@ -103,9 +103,9 @@ fn blank_rule() -> Rule {
     Rule {
         target: 0,
         delay: 0,
-        onto: None,
-        along: None,
-        source: None,
+        onto: Some(0),
+        along: Some(0),
+        source: Some(0),
         body: Body { first: 0, count: 0 },
         formula: 0,
     }
@@ -134,6 +134,14 @@ pub fn copies<T: Copy>(heap: Global, x: T, n: usize) -> Result<Vec<T>, AllocErro
     ensures { IfOk result (λ v. v.items ≡ replicate n x) }
 {
     (0..n).map(|_i| x).collect(heap)
+}
+
+// The front of a table: its first n records, or all if there are fewer. For a table that is lent without a count of its
+// own; one with a count is a `Shelf`, whose `records` gives the same.
+pub fn front<T>(table: &[T], n: usize) -> &[T]
+    ensures { result.now ≡ take n table.now }
+{
+    table.get(..n).unwrap_or(table)
 }
 
 // What a file describes: a house, and the book of its stairs under its quorum.
