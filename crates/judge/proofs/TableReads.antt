@@ -1,5 +1,5 @@
 -- What reads of tables and cells come to. Assumes nothing.
-use Rattle.std.proofs.Common.{◌≡◌, ℕ, ◌<◌, ◌≤◌, Bool, true, false, not, ◌&&◌, List, get_or, Some, None, Option, Bor, sym, refl, ◌∙◌, zero-add}
+use Rattle.std.proofs.Common.{◌≡◌, ℕ, ◌<◌, ◌≤◌, Bool, true, false, not, ◌&&◌, List, get_or, Some, None, Option, Bor, sym, refl, subst, ◌∙◌, zero-add}
 use Rattle.std.specs.Prelude.{option_copied}
 use Rattle.std.specs.Slice.{IsItemAt}
 use Rattle.std.proofs.lemmas.Bool.{true≢false, lt-ltb, le-ltb, cond-true, cond-false}
@@ -39,6 +39,10 @@ module _ {S : Type 0} (has : S → Points) where
   unfolding bound_at
   bound_got xs i None got p = sym (at_got false (λ b. has b p) xs i None got)
   bound_got xs i (Some x) got p = sym (at_got false (λ b. has b p) xs i (Some x) got)
+
+  -- the same of a place however it was reckoned
+  pub bound_got_at : (xs : List S) (i j : ℕ) (r : Option (Bor S)) → IsItemAt xs i r → i ≡ j → Same (points_of has (option_copied r)) (bound_at has xs j)
+  bound_got_at xs i j r got e = subst (λ (k : ℕ). Same (points_of has (option_copied r)) (bound_at has xs k)) e (bound_got xs i r got)
 
   module _ (h : House S) (a : Course) where
     -- a fixed label looks at the fixed bound

@@ -74,7 +74,7 @@ module _ {S : Type 0} (has : S → Points) (s : Sizes) (cells : List S) (x : Cel
     cell_read y is p = rw (found.0, ← found.1) (at_read false (λ z. has z p) cells at y found.2 is)
 
     -- the course after a write to it
-    cell_set : (v : S) (t c l p : ℕ) → course_of s has (set cells at v) t c l p ≡ cond (here x t c l) (has v p) (course_of s has cells t c l p)
+    pub cell_set : (v : S) (t c l p : ℕ) → course_of s has (set cells at v) t c l p ≡ cond (here x t c l) (has v p) (course_of s has cells t c l p)
     unfolding course_of
     cell_set v t c l p =
         ⊎_elim
@@ -115,7 +115,7 @@ pub within_all : (n : ℕ) (a b : Points) → Among a b → within n a b ≡ tru
 unfolding within
 within_all n a b all = each_from n _ (λ p l. implies_from (a p) (b p) (all p))
 
-within_same : (n : ℕ) (a a' b : Points) → Same a a' → within n a b ≡ within n a' b
+pub within_same : (n : ℕ) (a a' b : Points) → Same a a' → within n a b ≡ within n a' b
 unfolding within
 within_same n a a' b e = same_test _ _ (each_same a a' e) (each_same a' a (λ p. sym (e p)))
   where
