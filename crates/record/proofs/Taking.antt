@@ -189,6 +189,11 @@ module _ {B : Type 0} (n : ℕ) (has : B → Points) (form : B → List ℕ) (li
     so_stops (Entry (NotFiled cause)) i t' d' e lt (r, parsed, h) =
         (rs, e, lt, taken_kept rs t t' h.1 so.taken, (r, parsed, denied_here fresh rs t d.count so r (NotFiled cause) h.0))
 
+-- what the taking of a row does is what the taking of an equal row does
+pub at_row : {B : Type 0} (n : ℕ) (has : B → Points) (form : B → List ℕ) (s : Sizes) (t : Tables B) (d : Draft) (r : Result (Unit {0}) RecordFault) (t' : Tables B) (d' : Draft) (row row' : List ℕ) →
+    TakeDoes n has form row s t d r t' d' → row ≡ row' → TakeDoes n has form row' s t d r t' d'
+at_row n has form s t d r t' d' row row' h e = rw e at h
+
 -- what is lent stays lent
 pub lent_on : {B : Type 0} (t t₁ t' : Tables B) → Lent t t₁ → Lent t₁ t' → Lent t t'
 lent_on t t₁ t' a b = (b.0 ∙ a.0, b.1 ∙ a.1, b.2 ∙ a.2, b.3 ∙ a.3, b.4 ∙ a.4, b.5 ∙ a.5, b.6 ∙ a.6, b.7 ∙ a.7)

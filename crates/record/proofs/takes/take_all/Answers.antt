@@ -1,8 +1,8 @@
-use Rattle.std.proofs.Common.{◌≡◌, [], ◌∷◌, ◌++◌, refl, arith, rules}
-use Rattle.std.proofs.lemmas.List.{length_push}
+use Rattle.std.proofs.Common.{◌≡◌, ◌<◌, [], ◌∷◌, ◌++◌, length, get_or, refl, arith, rules}
+use Rattle.std.proofs.lemmas.List.{get_or-take, get_or-drop, length-take, length-drop, length_push}
 use Rattle.std.proofs.lemmas.Result.{err_from_is_err_and}
 use Rattle.record.specs.Faults.{placed}
-use Rattle.record.proofs.Taking.{So, so_none, so_more, so_stops, lent_on, passed, failed}
+use Rattle.record.proofs.Taking.{So, so_none, so_more, so_stops, at_row, lent_on, passed, failed}
 use Rattle.record.proofs.takes.take_all.Goals as goal
 
 pub loop-i-init : goal.loop-i-init
@@ -18,16 +18,25 @@ returns-in_err-map_err-clause-does g c =
     let f = failed _ c.take.result c.map_err.result c.map_err.ensures.cases c.in_err-map_err.field-0.0 c.in_err-map_err.was in
     let told : c.in_err-map_err.field-0.0 ≡ placed f.0 c.loop-i.i-counter = let t = f.2 in search rules in
     let i = c.loop-i.invariant in
+    let here : c.loop-i.i-counter < length c.args.lines.now = grind (arith, length-take, length-drop, c.loop-i-test.true) in
+    let does =
+    at_row g.S.Scale.size g.S.Scale.has g.S.Recorded.form c.args.sizes c.loop-i.tables c.loop-i.draft c.take.result c.take.new.tables c.take.new.draft
+    _ (get_or c.args.lines.now c.loop-i.i-counter []) c.take.ensures.does
+    (grind (arith, get_or-take, get_or-drop, length-take, length-drop, c.loop-i-test.true)) in
     let so : So g.S.Scale.size g.S.Scale.has g.S.Recorded.form c.args.lines.now c.args.sizes c.args.tables.now i.0 c.loop-i.tables c.loop-i.draft.count =
     record { taken = i.2; filings = i.3 } in
     rw (p.1, p.2, told) (so_stops g.S.Scale.size g.S.Scale.has g.S.Recorded.form c.args.lines.now c.args.sizes c.args.tables.now c.requires i.0 c.loop-i.tables
-    c.loop-i.draft so f.0 c.loop-i.i-counter c.take.new.tables c.take.new.draft i.1 c.loop-i-test.true (rw f.1 at c.take.ensures.does))
+    c.loop-i.draft so f.0 c.loop-i.i-counter c.take.new.tables c.take.new.draft i.1 here (rw f.1 at does))
 
 pub loop-i-preserved : goal.loop-i-preserved
 loop-i-preserved g c =
     let p = passed _ c.take.result c.map_err.result c.map_err.ensures.cases c.in_ok-map_err.field-0 c.in_ok-map_err.was in
     let i = c.loop-i.invariant in
-    let d = rw p at c.take.ensures.does in
+    let does =
+    at_row g.S.Scale.size g.S.Scale.has g.S.Recorded.form c.args.sizes c.loop-i.tables c.loop-i.draft c.take.result c.take.new.tables c.take.new.draft
+    _ (get_or c.args.lines.now c.loop-i.i-counter []) c.take.ensures.does
+    (grind (arith, get_or-take, get_or-drop, length-take, length-drop, c.loop-i-test.true)) in
+    let d = rw p at does in
     let so : So g.S.Scale.size g.S.Scale.has g.S.Recorded.form c.args.lines.now c.args.sizes c.args.tables.now i.0 c.loop-i.tables c.loop-i.draft.count =
     record { taken = i.2; filings = i.3 } in
     let r = d.0 in
