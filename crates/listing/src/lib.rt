@@ -27,7 +27,7 @@ fn put_line(out: &mut String, sizes: Sizes, at: usize, form: [u8; 4]) -> fmt::Re
 }
 
 // Writes the line of the cell at a place, unless it is loose.
-#[tactic(auto, unfolding(crate::specs::Lines::line_of))]
+#[tactic(auto, using(points::proofs::Decided::loose_within, std::proofs::lemmas::Grind::common_steps), unfolding(crate::specs::Lines::line_of))]
 fn put_cell<S: Recorded>(out: &mut String, sizes: Sizes, at: usize, cell: S) -> fmt::Result
     ensures { OnOk result (string_bytes out.new ≡ string_bytes out.old ++ line_of S.Scale.size S.Scale.has S.Recorded.form sizes at cell) }
 {
